@@ -1,0 +1,46 @@
+// Theorems on rows and shapes, as the contracts of functions that have nothing else to do.
+ghost use Rattle.cycle_space.specs.Rows.{Known-by-pipes, Sum-laws, Parity-laws};
+ghost use Rattle.cycle_space.specs.Shapes.{Part-laws, Parts-are-counted, Due-is-closing};
+ghost use Rattle.cycle_space.specs.Labels.{Labels-tell-parts};
+
+pub fn rows_are_known_by_their_pipes() -> u8
+    ensures { λ _. ⌜ Known-by-pipes ⌝ }
+{
+    0
+}
+
+pub fn sum_keeps_its_laws() -> u8
+    ensures { λ _. ⌜ Sum-laws ⌝ }
+{
+    0
+}
+
+pub fn parity_keeps_its_laws() -> u8
+    ensures { λ _. ⌜ Parity-laws ⌝ }
+{
+    0
+}
+
+pub fn part_is_an_equivalence() -> u8
+    ensures { λ _. ⌜ Part-laws ⌝ }
+{
+    0
+}
+
+pub fn parts_are_counted() -> u8
+    ensures { λ _. ⌜ Parts-are-counted ⌝ }
+{
+    0
+}
+
+pub fn due_is_the_number_of_closing_pipes() -> u8
+    ensures { λ _. ⌜ Due-is-closing ⌝ }
+{
+    0
+}
+
+pub fn labels_tell_parts() -> u8
+    ensures { λ _. ⌜ Labels-tell-parts ⌝ }
+{
+    0
+}

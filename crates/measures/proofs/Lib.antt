@@ -1,0 +1,5 @@
+pub mod OfGrades
+pub mod OfLengths
+pub mod OfNumbers
+pub mod OfPairs
+pub mod Same

@@ -1,0 +1,6 @@
+pub mod Grades
+pub mod Laws
+pub mod Lengths
+pub mod Numbers
+pub mod Pairs
+pub mod Refusals

@@ -1,0 +1,42 @@
+// Measures: values that are joined and weighed, with the laws that each kind of them keeps.
+mod grades;
+mod lengths;
+mod measure;
+mod pairs;
+mod refusal;
+#[cfg(test)]
+mod tests;
+
+pub use grades::Grade;
+pub use grades::GradeDebug;
+pub use grades::GradeEq;
+pub use grades::GradeHash;
+pub use grades::GradeOrd;
+pub use grades::GradePartialEq;
+pub use grades::GradePartialOrd;
+pub use grades::measured::GradeFile;
+pub use grades::measured::GradeMeasure;
+pub use lengths::Length;
+pub use lengths::LengthDebug;
+pub use lengths::LengthEq;
+pub use lengths::LengthHash;
+pub use lengths::LengthOrd;
+pub use lengths::LengthPartialEq;
+pub use lengths::LengthPartialOrd;
+pub use lengths::measured::LengthFile;
+pub use lengths::measured::LengthMeasure;
+pub use lengths::measured::LengthStrict;
+pub use measure::FileMeasure;
+pub use measure::Measure;
+pub use measure::Strict;
+pub use pairs::Pair;
+pub use pairs::PairClone;
+pub use pairs::PairDebug;
+pub use pairs::PairEq;
+pub use pairs::PairMeasure;
+pub use pairs::PairPartialEq;
+pub use refusal::Refusal;
+pub use refusal::RefusalDebug;
+pub use refusal::RefusalDisplay;
+pub use refusal::RefusalEq;
+pub use refusal::RefusalPartialEq;

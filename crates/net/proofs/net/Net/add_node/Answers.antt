@@ -1,0 +1,13 @@
+use mathlib.Core.Path.{refl}
+use native.Mathlib.Omega.{arith}
+use Rattle.net.proofs.Kept.{kept}
+use Rattle.net.proofs.Keeping.{node-added}
+use Rattle.net.proofs.Replies.{nodes-full}
+use Rattle.net.proofs.net.Net.add_node.Needs as need
+
+pub returns-then-nodes-ge-MOST-NODES : need.returns-then-nodes-ge-MOST-NODES
+returns-then-nodes-ge-MOST-NODES g c = let few = kept (c .args .self .now) .few-nodes in (nodes-full (c .args .self .now) (omega arith), refl)
+
+pub ghost-self : need.ghost-self
+ghost-self g c =
+    (tt, (c .args .self .now .fits, (∣ node-added (c .args .self .now .tables) (kept (c .args .self .now)) (omega arith) ∣₁, tt)))

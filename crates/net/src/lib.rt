@@ -1,0 +1,21 @@
+// A net of pipes over the caller's column of weights: work on it, and questions about it.
+mod labels;
+mod net;
+mod questions;
+mod refusal;
+mod tables;
+mod weight;
+mod work;
+
+pub use net::Net;
+pub use refusal::Refusal;
+pub use refusal::RefusalDebug;
+pub use refusal::RefusalDisplay;
+pub use refusal::RefusalEq;
+pub use refusal::RefusalError;
+pub use refusal::RefusalPartialEq;
+pub use tables::Ends;
+pub use tables::EndsDebug;
+pub use tables::EndsEq;
+pub use tables::EndsPartialEq;
+pub use weight::weight_of;

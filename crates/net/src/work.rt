@@ -1,0 +1,91 @@
+ghost use Rattle.net.specs.Calls.{Opened, Replied, Add-declined, Added, Lay-declined, Laid, Lift-declined, Lifted, Pipe-declined, Reweighed};
+use crate::net::Net;
+use crate::refusal::Refusal;
+use crate::tables::Ends;
+use crate::tables::MOST_NODES;
+use crate::tables::MOST_PIPES;
+use crate::tables::StoredRow;
+use crate::tables::Tables;
+use measures::Measure;
+
+impl<'a, M: Measure> Net<'a, M> {
+    // A net without nodes, pipes or rings. It is never refused.
+    pub fn open(column: &'a mut [M]) -> Net<'a, M>
+        ensures { λ r. ⌜ Opened (now (column .entry)) r ⌝ }
+    {
+        let nowhere = Ends {
+            first: 0,
+            second: 0,
+        };
+        let no_pipes = StoredRow { words: [0; 4] };
+        Net {
+            column,
+            tables: Tables {
+                nodes: 0,
+                pipes: 0,
+                found: 0,
+                ends: [nowhere; 256],
+                rows: [no_pipes; 256],
+                supports: [no_pipes; 256],
+            },
+        }
+    }
+
+    // One node more; answers its number. Rings found remain.
+    pub fn add_node(&mut self) -> Result<usize, Refusal>
+        ensures { λ r. ⌜ Replied (Add-declined (now (self .entry))) (Added (now (self .entry))) (now (self .entry)) r (now (self .exit)) ⌝ }
+    {
+        let nodes = self.tables.nodes;
+        if nodes >= MOST_NODES {
+            return Err(Refusal::NodesFull);
+        }
+        self.tables.nodes = nodes + 1;
+        Ok(nodes + 1)
+    }
+
+    // One pipe more, with its weight in the next place of the column; answers its number. Rings found are struck.
+    pub fn lay(&mut self, first: usize, second: usize, weight: M) -> Result<usize, Refusal>
+        ensures { λ r. ⌜ Replied (Lay-declined (now (self .entry)) first second) (Laid (now (self .entry)) first second weight) (now (self .entry)) r (now (self .exit)) ⌝ }
+    {
+        if !self.tables.has_node(first) || !self.tables.has_node(second) {
+            return Err(Refusal::NoSuchNode);
+        }
+        if first == second {
+            return Err(Refusal::OneNode);
+        }
+        let place = self.tables.pipes;
+        if place >= MOST_PIPES || place >= self.column.len() {
+            return Err(Refusal::PipesFull);
+        }
+        self.column[place] = weight;
+        self.tables.ends[place] = Ends { first, second };
+        self.tables.pipes = place + 1;
+        self.tables.found = 0;
+        Ok(place + 1)
+    }
+
+    // The pipe of highest number is taken away, and the column left as it is; answers the pipe's number. Rings found are struck.
+    pub fn lift(&mut self) -> Result<usize, Refusal>
+        ensures { λ r. ⌜ Replied (Lift-declined (now (self .entry))) (Lifted (now (self .entry))) (now (self .entry)) r (now (self .exit)) ⌝ }
+    {
+        let pipes = self.tables.pipes;
+        if pipes == 0 {
+            return Err(Refusal::NoSuchPipe);
+        }
+        self.tables.pipes = pipes - 1;
+        self.tables.found = 0;
+        Ok(pipes)
+    }
+
+    // Another weight for one pipe. Rings found are struck.
+    pub fn reweigh(&mut self, pipe: usize, weight: M) -> Result<(), Refusal>
+        ensures { λ r. ⌜ Replied (Pipe-declined (now (self .entry)) pipe) (λ _. Reweighed (now (self .entry)) pipe weight) (now (self .entry)) r (now (self .exit)) ⌝ }
+    {
+        if !self.tables.has_pipe(pipe) {
+            return Err(Refusal::NoSuchPipe);
+        }
+        self.column[pipe - 1] = weight;
+        self.tables.found = 0;
+        Ok(())
+    }
+}
