@@ -8,3 +8,4 @@ pub mod Labels
 pub mod Counting
 pub mod Parts
 pub mod Due
+pub mod Moments

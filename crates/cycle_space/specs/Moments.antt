@@ -1,10 +1,10 @@
 -- A net at a moment: its nodes, its pipes and their weights, what changes it, and the weight of a set of pipes. Assumes nothing.
 use mathlib.Core.Path.{_≡_}
-use mathlib.Core.Bool.{cond}
+use mathlib.Core.Bool.{true, cond}
 use mathlib.Core.List.{List, [], _∷_, _++_, map}
 use Prim.Native.Nat.{ℕ, zero, suc, _+_, _-_, _≤_}
-use lib.ListN.{length, getD, take}
-use Rattle.cycle_space.specs.Rows.{Row, holds}
+use lib.ListN.{length, getD, set, take}
+use Rattle.cycle_space.specs.Rows.{Row, holds, empty, sum, Four-words}
 use Rattle.cycle_space.specs.Shapes.{Shape}
 
 -- a pipe (a weighted edge): drawn from its first end to its second
@@ -68,3 +68,17 @@ module _ {M : Type 0} (none : M) (join : M → M → M) where
   -- the weight of a set of pipes of the net
   abbrev pub weight : Moment M → Row → M
   weight n row = weight-from row 1 (weights n)
+
+-- What is proved of them.
+
+-- a lift takes away what was laid last; a reweighing alters the one weight, and no end
+pub record Moment-laws (M : Type 0) : Type 0 where
+  pub lift-undoes-lay : (n : Moment M) (a b : ℕ) (w : M) → drop-last (add-pipe n a b w) ≡ n
+  pub reweigh-keeps-ends : (n : Moment M) (j : ℕ) (w : M) → shape (reweigh-pipe n j w) ≡ shape n
+  pub reweigh-sets-weight : (n : Moment M) (j : ℕ) (w : M) → weights (reweigh-pipe n j w) ≡ set (weights n) (j - 1) w
+
+-- the empty set weighs nothing, and two sets without a common pipe weigh together what they weigh each
+pub record Weight-laws {M : Type 0} (none : M) (join : M → M → M) : Type 0 where
+  pub empty-none : (n : Moment M) → weight none join n empty ≡ none
+  pub apart-joins : (n : Moment M) (x y : Row) → Four-words x → Four-words y → ((j : ℕ) → holds x j ≡ true → holds y j ≡ true → ⊥)
+      → weight none join n (sum x y) ≡ join (weight none join n x) (weight none join n y)

@@ -7,6 +7,7 @@ pub use rows::parity;
 pub use rows::sum;
 pub use theorems::due_is_the_number_of_closing_pipes;
 pub use theorems::labels_tell_parts;
+pub use theorems::nets_keep_their_laws;
 pub use theorems::parity_keeps_its_laws;
 pub use theorems::part_is_an_equivalence;
 pub use theorems::parts_are_counted;

@@ -2,6 +2,7 @@
 ghost use Rattle.cycle_space.specs.Rows.{Known-by-pipes, Sum-laws, Parity-laws};
 ghost use Rattle.cycle_space.specs.Shapes.{Part-laws, Parts-are-counted, Due-is-closing};
 ghost use Rattle.cycle_space.specs.Labels.{Labels-tell-parts};
+ghost use Rattle.cycle_space.specs.Moments.{Moment-laws};
 
 pub fn rows_are_known_by_their_pipes() -> u8
     ensures { λ _. ⌜ Known-by-pipes ⌝ }
@@ -41,6 +42,12 @@ pub fn due_is_the_number_of_closing_pipes() -> u8
 
 pub fn labels_tell_parts() -> u8
     ensures { λ _. ⌜ Labels-tell-parts ⌝ }
+{
+    0
+}
+
+pub fn nets_keep_their_laws<M>() -> u8
+    ensures { λ _. ⌜ Moment-laws M ⌝ }
 {
     0
 }

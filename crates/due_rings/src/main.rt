@@ -26,10 +26,16 @@ const WISHES: [Wish; 6] = [
 fn lay(rt: &LibcRuntime, net: &mut Net<Length>, wish: &Wish) -> Result<(), AnyError> {
     let Wish(first, second, length) = wish;
     match net.lay(*first, *second, Length::new(*length)) {
-        Ok(pipe) => println!(rt, "pipe {pipe} laid from node {first} to node {second}, length {length}")?,
+        Ok(pipe) => println!(
+            rt,
+            "pipe {pipe} laid from node {first} to node {second}, length {length}"
+        )?,
         Err(refusal) => {
             let number = refusal.number();
-            println!(rt, "no pipe laid from node {first} to node {second}: refusal {number}, {refusal}")?;
+            println!(
+                rt,
+                "no pipe laid from node {first} to node {second}: refusal {number}, {refusal}"
+            )?;
         }
     }
     Ok(())
@@ -49,6 +55,9 @@ fn main(rt: LibcRuntime) -> Result<(), AnyError> {
     let pipes = net.pipes();
     let parts = net.parts();
     let due = net.due();
-    println!(rt, "the net has {nodes} nodes, {pipes} pipes, {parts} part and {due} rings due")?;
+    println!(
+        rt,
+        "the net has {nodes} nodes, {pipes} pipes, {parts} part and {due} rings due"
+    )?;
     Ok(())
 }

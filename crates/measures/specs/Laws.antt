@@ -1,10 +1,9 @@
 -- The laws of a measure and of a strict measure, at all values. Assumes nothing.
--- A measure is a commutative monoid with a total preorder that its join is monotone in, and that has a least value, the zero, and a greatest, the ceiling.
 use mathlib.Core.Path.{_≡_}
 use mathlib.Core.Logic.{_⊎_}
 use mathlib.Core.Bool.{Bool, true, false}
 
--- `within a b` says that a is at most b. Join is a commutative monoid; at most is a total preorder, with bottom and top.
+-- a measure, but for `Keeps-order`: a totally preordered commutative monoid, whose least value is the zero and whose greatest, its top, is the ceiling; `within a b` says that a is at most b
 pub record Laws {M : Type 0} (zero ceiling : M) (join : M → M → M) (within : M → M → Bool) : Type 0 where
   pub assoc : (a b c : M) → join (join a b) c ≡ join a (join b c)
   pub comm : (a b : M) → join a b ≡ join b a
@@ -22,15 +21,15 @@ Level within a b = (within a b ≡ true) × (within b a ≡ true)
 abbrev pub Lighter : {M : Type 0} → (M → M → Bool) → M → M → Type 0
 Lighter within a b = (within a b ≡ true) × (within b a ≡ false)
 
--- a top: the ceiling is at most it, so that the two are level
+-- level with the ceiling: the ceiling is at most it
 abbrev pub At-ceiling : {M : Type 0} → M → (M → M → Bool) → M → Type 0
 At-ceiling ceiling within a = within ceiling a ≡ true
 
--- monotone: joined to both sides, a third value keeps their order
+-- the join is monotone: joined to both sides, a third value keeps their order
 abbrev pub Keeps-order : {M : Type 0} → (M → M → M) → (M → M → Bool) → Type 0
 Keeps-order {M} join within = (a b c : M) → within a b ≡ true → within (join a c) (join b c) ≡ true
 
--- strictly monotone below the ceiling: joined to both sides, a third value keeps the lighter one lighter, as long as the heavier side stays off the ceiling
+-- a measure is strict where its join is strictly monotone below the ceiling: joined to both sides, a third value keeps the lighter one lighter, as long as the heavier side stays off the ceiling
 abbrev pub Keeps-lighter : {M : Type 0} → M → (M → M → M) → (M → M → Bool) → Type 0
 Keeps-lighter {M} ceiling join within =
     (a b c : M) → Lighter within a b → (At-ceiling ceiling within (join b c) → ⊥) → Lighter within (join a c) (join b c)

@@ -9,6 +9,6 @@ use Rattle.measures.specs.declared.refusal.Refusal.the-variants.{FileNumberToo
 abbrev pub number : Refusal → ℕ
 number FileNumberTooGreat = 9
 
--- what is printed of it, as bytes
+-- the reason, in words, as ASCII bytes
 abbrev pub words : Refusal → List ℕ
-words FileNumberTooGreat = codes "the file number is above the greatest that the measure takes"
+words FileNumberTooGreat = codes "the file number is above the measure's greatest"

@@ -39,4 +39,5 @@ pub use refusal::Refusal;
 pub use refusal::RefusalDebug;
 pub use refusal::RefusalDisplay;
 pub use refusal::RefusalEq;
+pub use refusal::RefusalError;
 pub use refusal::RefusalPartialEq;

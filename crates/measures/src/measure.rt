@@ -1,5 +1,5 @@
 ghost use mathlib.Core.Path.{_≡_};
-ghost use mathlib.Core.Bool.{Bool, true, false};
+ghost use mathlib.Core.Bool.{Bool};
 ghost use Prim.Native.Nat.{ℕ};
 ghost use Rattle.measures.specs.Laws.{Laws, Keeps-order, Keeps-lighter};
 ghost use Rattle.measures.specs.Numbers.{Read};

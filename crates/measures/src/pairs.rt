@@ -17,7 +17,7 @@ impl<A: Strict, B: Measure> Pair<A, B> {
     {}
 }
 
-// Never a strict measure: the seconds may come to their ceiling before the firsts do.
+// No strict measure: between level firsts, a join can make unlike seconds level.
 pub impl<A: Strict, B: Measure> Measure for Pair<A, B> as PairMeasure {
     ghost zero = { both (A·Measure .zero) (B·Measure .zero) };
 

@@ -1,6 +1,5 @@
 -- How the tables of a net stay as they must be. Assumes nothing.
 use mathlib.Core.Path.{_≡_, sym, subst, _∙_}
-use mathlib.Core.List.{List}
 use Prim.Native.Nat.{ℕ, _+_, _-_, _≤_, _<_}
 use native.Mathlib.Omega.{arith}
 use native.Mathlib.Decide.{ℕ-discrete}
@@ -8,24 +7,24 @@ use lib.ListN.{length, getD, set}
 use Rattle.std.proofs.shelf.Lists.{length-set, getD-set-same, getD-set-other}
 use Rattle.net.specs.Keeps.{Joins, Keeps, nowhere}
 use Rattle.net.specs.declared.tables.Tables.{Tables}
-use Rattle.net.specs.declared.tables.StoredRow.{StoredRow}
 use Rattle.net.specs.declared.tables.Ends.{Ends}
 
-pub begun : (ends : List Ends) (rows supports : List StoredRow) → length ends ≡ 256 → length rows ≡ 256 → length supports ≡ 256
-    → Keeps (record { nodes = 0; pipes = 0; found = 0; ends = ends; rows = rows; supports = supports })
-begun ends rows supports a b c = record {
+-- without pipes
+pub begun : (t : Tables) → length (t .ends) ≡ 256 → length (t .rows) ≡ 256 → length (t .supports) ≡ 256 → t .nodes ≤ 64 → t .pipes ≡ 0 → t .found ≤ 256 → Keeps t
+begun t a b c nodes pipes found = record {
   places = (a, b, c);
-  few-nodes = omega arith;
+  few-nodes = nodes;
   few-pipes = omega arith;
-  few-rings = omega arith;
+  few-rings = found;
   joined = λ j l. absurd (omega arith);
 }
 
-pub node-added : (t : Tables) → Keeps t → t .nodes < 64
-    → Keeps (record { nodes = t .nodes + 1; pipes = t .pipes; found = t .found; ends = t .ends; rows = t .rows; supports = t .supports })
-node-added t k l = record {
+-- no fewer nodes
+pub nodes-added : (t : Tables) → Keeps t → (nodes : ℕ) → t .nodes ≤ nodes → nodes ≤ 64
+    → Keeps (record { nodes = nodes; pipes = t .pipes; found = t .found; ends = t .ends; rows = t .rows; supports = t .supports })
+nodes-added t k nodes up few = record {
   places = k .places;
-  few-nodes = omega arith;
+  few-nodes = few;
   few-pipes = k .few-pipes;
   few-rings = k .few-rings;
   joined = λ j m. let e = k .joined j m in record {
@@ -35,9 +34,10 @@ node-added t k l = record {
   };
 }
 
-pub pipe-laid : (t : Tables) → Keeps t → (e : Ends) → Joins (t .nodes) e → t .pipes < 256
-    → Keeps (record { nodes = t .nodes; pipes = t .pipes + 1; found = 0; ends = set (t .ends) (t .pipes) e; rows = t .rows; supports = t .supports })
-pipe-laid t k e h l = record {
+-- ends in the next place, and at most one pipe more
+pub pipe-laid : (t : Tables) → Keeps t → (e : Ends) → Joins (t .nodes) e → (pipes : ℕ) → pipes ≤ t .pipes + 1 → t .pipes < 256
+    → Keeps (record { nodes = t .nodes; pipes = pipes; found = 0; ends = set (t .ends) (t .pipes) e; rows = t .rows; supports = t .supports })
+pipe-laid t k e h pipes up l = record {
   places = (length-set (t .ends) (t .pipes) e ∙ k .places .0, k .places .1, k .places .2);
   few-nodes = k .few-nodes;
   few-pipes = omega arith;

@@ -49,6 +49,9 @@ pub record Added {M : Type 0} (n : Net M) (k : ℕ) (n′ : Net M) : Type 0 wher
   pub rings-remain : rings n′ ≡ rings n
   pub column-stays : now (n′ .column) ≡ now (n .column)
 
+abbrev pub Adds-node : {M : Type 0} → Net M → Result ℕ Refusal → Net M → Type 0
+Adds-node n r n′ = Replied (Add-declined n) (Added n) n r n′
+
 -- Lay
 
 -- there is a place for one more pipe
@@ -67,6 +70,9 @@ pub record Laid {M : Type 0} (n : Net M) (a b : ℕ) (w : M) (k : ℕ) (n′ : N
   pub rings-struck : rings n′ ≡ []
   pub next-place : now (n′ .column) ≡ set (now (n .column)) (length (view n .pipes)) w
 
+abbrev pub Lays : {M : Type 0} → Net M → ℕ → ℕ → M → Result ℕ Refusal → Net M → Type 0
+Lays n a b w r n′ = Replied (Lay-declined n a b) (Laid n a b w) n r n′
+
 -- Lift
 
 abbrev pub Lift-declined : {M : Type 0} → Net M → Refusal → Type 0
@@ -79,6 +85,9 @@ pub record Lifted {M : Type 0} (n : Net M) (k : ℕ) (n′ : Net M) : Type 0 whe
   pub rings-struck : rings n′ ≡ []
   pub column-stays : now (n′ .column) ≡ now (n .column)
 
+abbrev pub Lifts : {M : Type 0} → Net M → Result ℕ Refusal → Net M → Type 0
+Lifts n r n′ = Replied (Lift-declined n) (Lifted n) n r n′
+
 -- Reweigh, and questions about a pipe
 
 abbrev pub Pipe-declined : {M : Type 0} → Net M → ℕ → Refusal → Type 0
@@ -90,10 +99,20 @@ pub record Reweighed {M : Type 0} (n : Net M) (j : ℕ) (w : M) (n′ : Net M) :
   pub rings-struck : rings n′ ≡ []
   pub its-place : now (n′ .column) ≡ set (now (n .column)) (j - 1) w
 
--- the ends of pipe j, and its weight
+abbrev pub Reweighs : {M Reply : Type 0} → Net M → ℕ → M → Result Reply Refusal → Net M → Type 0
+Reweighs n j w r n′ = Replied (Pipe-declined n j) (λ _. Reweighed n j w) n r n′
+
+-- the ends of pipe j
 pub record Ends-of {M : Type 0} (n : Net M) (j : ℕ) (e : Ends) : Type 0 where
   pub first-end : e .first ≡ shape (view n) .first (j - 1)
   pub second-end : e .second ≡ shape (view n) .second (j - 1)
 
+abbrev pub Tells-ends : {M : Type 0} → Net M → ℕ → Result Ends Refusal → Type 0
+Tells-ends n j r = Answered (Pipe-declined n j) (Ends-of n j) r
+
+-- the weight of pipe j
 abbrev pub Weight-of : {M : Type 0} → Net M → ℕ → M → Type 0
 Weight-of n j w = w ≡ getD (weights (view n)) (j - 1) w
+
+abbrev pub Tells-weight : {M : Type 0} → Net M → ℕ → Result M Refusal → Type 0
+Tells-weight n j r = Answered (Pipe-declined n j) (Weight-of n j) r

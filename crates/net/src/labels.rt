@@ -9,10 +9,13 @@ use crate::net::Net;
 use crate::tables::Ends;
 use measures::Measure;
 
+// A place for each node's number, and one for 0.
+const PLACES: usize = 65;
+
 // A label for each node, at the place of its number: two nodes have one label where the pipes laid so far join them.
 #[derive(Clone, Copy)]
 pub struct Labels {
-    of: [usize; 65],
+    of: [usize; PLACES],
 }
 
 impl Labels {
@@ -20,8 +23,8 @@ impl Labels {
     fn own() -> Labels
         ensures { λ r. ⌜ ((v : ℕ) → v < 65 → labelled r v ≡ v) ⌝ }
     {
-        let mut of = [0; 65];
-        for v in 0..65 {
+        let mut of = [0; PLACES];
+        for v in 0..PLACES {
             of[v] = v;
         }
         Labels { of }

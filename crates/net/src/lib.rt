@@ -4,6 +4,7 @@ mod net;
 mod questions;
 mod refusal;
 mod tables;
+mod theorems;
 mod weight;
 mod work;
 
@@ -18,4 +19,5 @@ pub use tables::Ends;
 pub use tables::EndsDebug;
 pub use tables::EndsEq;
 pub use tables::EndsPartialEq;
+pub use theorems::weights_add_up;
 pub use weight::weight_of;

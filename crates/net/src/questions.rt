@@ -3,7 +3,7 @@ ghost use lib.ListN.{length};
 ghost use Rattle.cycle_space.specs.Shapes.{Parts, Due, Closing, Exactly};
 ghost use Rattle.cycle_space.specs.Moments.{shape};
 ghost use Rattle.net.specs.Views.{view, rings};
-ghost use Rattle.net.specs.Calls.{Answered, Pipe-declined, Ends-of, Weight-of};
+ghost use Rattle.net.specs.Calls.{Tells-ends, Tells-weight};
 use crate::net::Net;
 use crate::refusal::Refusal;
 use crate::tables::Ends;
@@ -28,7 +28,7 @@ impl<'a, M: Measure> Net<'a, M> {
     pub fn parts(&self) -> usize
         ensures { λ r. ⌜ Parts (shape (view (now (self .entry)))) r ⌝ }
     {
-        self.labels().parts(self.tables.nodes)
+        self.labels().parts(self.nodes())
     }
 
     // How many rings are due (the cycle rank).
@@ -36,7 +36,7 @@ impl<'a, M: Measure> Net<'a, M> {
         ensures formula { λ r. ⌜ Due (shape (view (now (self .entry)))) r ⌝ }
         ensures closing { λ r. ⌜ Exactly (Closing (shape (view (now (self .entry))))) (shape (view (now (self .entry))) .pipes) r ⌝ }
     {
-        self.tables.pipes + self.parts() - self.tables.nodes
+        self.pipes() + self.parts() - self.nodes()
     }
 
     // How many rings are found.
@@ -48,7 +48,7 @@ impl<'a, M: Measure> Net<'a, M> {
 
     // The ends of a pipe.
     pub fn ends(&self, pipe: usize) -> Result<Ends, Refusal>
-        ensures { λ r. ⌜ Answered (Pipe-declined (now (self .entry)) pipe) (Ends-of (now (self .entry)) pipe) r ⌝ }
+        ensures { λ r. ⌜ Tells-ends (now (self .entry)) pipe r ⌝ }
     {
         if !self.tables.has_pipe(pipe) {
             return Err(Refusal::NoSuchPipe);
@@ -58,7 +58,7 @@ impl<'a, M: Measure> Net<'a, M> {
 
     // The weight of a pipe.
     pub fn weight(&self, pipe: usize) -> Result<M, Refusal>
-        ensures { λ r. ⌜ Answered (Pipe-declined (now (self .entry)) pipe) (Weight-of (now (self .entry)) pipe) r ⌝ }
+        ensures { λ r. ⌜ Tells-weight (now (self .entry)) pipe r ⌝ }
     {
         if !self.tables.has_pipe(pipe) {
             return Err(Refusal::NoSuchPipe);

@@ -4,6 +4,7 @@ ghost use lib.Dec.{leb};
 
 // The most nodes and pipes that a net has.
 pub const MOST_NODES: usize = 64;
+
 pub const MOST_PIPES: usize = 256;
 
 // The two ends of a pipe, which is drawn from the first to the second.

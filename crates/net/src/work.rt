@@ -1,4 +1,4 @@
-ghost use Rattle.net.specs.Calls.{Opened, Replied, Add-declined, Added, Lay-declined, Laid, Lift-declined, Lifted, Pipe-declined, Reweighed};
+ghost use Rattle.net.specs.Calls.{Opened, Adds-node, Lays, Lifts, Reweighs};
 use crate::net::Net;
 use crate::refusal::Refusal;
 use crate::tables::Ends;
@@ -33,7 +33,7 @@ impl<'a, M: Measure> Net<'a, M> {
 
     // One node more; answers its number. Rings found remain.
     pub fn add_node(&mut self) -> Result<usize, Refusal>
-        ensures { λ r. ⌜ Replied (Add-declined (now (self .entry))) (Added (now (self .entry))) (now (self .entry)) r (now (self .exit)) ⌝ }
+        ensures { λ r. ⌜ Adds-node (now (self .entry)) r (now (self .exit)) ⌝ }
     {
         let nodes = self.tables.nodes;
         if nodes >= MOST_NODES {
@@ -45,7 +45,7 @@ impl<'a, M: Measure> Net<'a, M> {
 
     // One pipe more, with its weight in the next place of the column; answers its number. Rings found are struck.
     pub fn lay(&mut self, first: usize, second: usize, weight: M) -> Result<usize, Refusal>
-        ensures { λ r. ⌜ Replied (Lay-declined (now (self .entry)) first second) (Laid (now (self .entry)) first second weight) (now (self .entry)) r (now (self .exit)) ⌝ }
+        ensures { λ r. ⌜ Lays (now (self .entry)) first second weight r (now (self .exit)) ⌝ }
     {
         if !self.tables.has_node(first) || !self.tables.has_node(second) {
             return Err(Refusal::NoSuchNode);
@@ -66,7 +66,7 @@ impl<'a, M: Measure> Net<'a, M> {
 
     // The pipe of highest number is taken away, and the column left as it is; answers the pipe's number. Rings found are struck.
     pub fn lift(&mut self) -> Result<usize, Refusal>
-        ensures { λ r. ⌜ Replied (Lift-declined (now (self .entry))) (Lifted (now (self .entry))) (now (self .entry)) r (now (self .exit)) ⌝ }
+        ensures { λ r. ⌜ Lifts (now (self .entry)) r (now (self .exit)) ⌝ }
     {
         let pipes = self.tables.pipes;
         if pipes == 0 {
@@ -79,7 +79,7 @@ impl<'a, M: Measure> Net<'a, M> {
 
     // Another weight for one pipe. Rings found are struck.
     pub fn reweigh(&mut self, pipe: usize, weight: M) -> Result<(), Refusal>
-        ensures { λ r. ⌜ Replied (Pipe-declined (now (self .entry)) pipe) (λ _. Reweighed (now (self .entry)) pipe weight) (now (self .entry)) r (now (self .exit)) ⌝ }
+        ensures { λ r. ⌜ Reweighs (now (self .entry)) pipe weight r (now (self .exit)) ⌝ }
     {
         if !self.tables.has_pipe(pipe) {
             return Err(Refusal::NoSuchPipe);

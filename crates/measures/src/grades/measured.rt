@@ -1,6 +1,8 @@
 ghost use mathlib.Core.Path.{_≡_};
 ghost use mathlib.Core.Bool.{true};
-ghost use Prim.Native.Nat.{_≤_, max};
+ghost use Prim.Native.Nat.{_<_, _≤_, max};
+ghost use Rattle.std.specs.Results.{Cases};
+ghost use Rattle.measures.specs.Numbers.{Read};
 ghost use Rattle.measures.specs.Grades.{no-grade, greatest-grade, higher, not-higher, topped};
 use crate::grades::Grade;
 use crate::measure::FileMeasure;
@@ -55,7 +57,10 @@ pub impl FileMeasure for Grade as GradeFile {
         Self::GREATEST
     }
 
-    fn of_number(number: u64) -> Result<Grade, Refusal> {
+    fn of_number(number: u64) -> Result<Grade, Refusal>
+        ensures meant { λ r. ⌜ r ≡ Read topped 255 number ⌝ }
+        ensures itself { λ r. ⌜ Cases r (λ made. made .value ≡ number) (λ _. 255 < number) ⌝ }
+    {
         if number <= Self::GREATEST {
             Ok(Grade {
                 value: number as u8,

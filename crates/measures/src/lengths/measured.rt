@@ -1,6 +1,8 @@
 ghost use mathlib.Core.Path.{_≡_};
 ghost use mathlib.Core.Bool.{true};
-ghost use Prim.Native.Nat.{_+_, _≤_, min};
+ghost use Prim.Native.Nat.{_+_, _<_, _≤_, min};
+ghost use Rattle.std.specs.Results.{Cases};
+ghost use Rattle.measures.specs.Numbers.{Read};
 ghost use Rattle.measures.specs.Lengths.{no-length, greatest-length, together, not-longer, capped};
 use crate::lengths::Length;
 use crate::measure::FileMeasure;
@@ -60,7 +62,10 @@ pub impl FileMeasure for Length as LengthFile {
         Self::GREATEST
     }
 
-    fn of_number(number: u64) -> Result<Length, Refusal> {
+    fn of_number(number: u64) -> Result<Length, Refusal>
+        ensures meant { λ r. ⌜ r ≡ Read capped 1000000000 number ⌝ }
+        ensures itself { λ r. ⌜ Cases r (λ made. made .value ≡ number) (λ _. 1000000000 < number) ⌝ }
+    {
         if number <= Self::GREATEST {
             Ok(Length { value: number })
         } else {

@@ -1,6 +1,7 @@
-use mathlib.Core.Path.{sym, _∙_}
+use mathlib.Core.Path.{sym, ap, _∙_}
 use Rattle.std.proofs.shelf.Tests.{cond-true, cond-false}
-use Rattle.net.proofs.Weighing.{weight-none, weight-next, weight-all}
+use Rattle.cycle_space.specs.Moments.{weight-from}
+use Rattle.net.proofs.Weighing.{empty-weighs, weight-none, weight-next, weight-all}
 use Rattle.net.proofs.weight.weight_of.Needs as need
 use Rattle.net.proofs.weight.weight_of.Needs.{then-has, else-has}
 
@@ -18,4 +19,9 @@ loop-place-again g c =
 
 pub returns : need.returns
 returns g c =
-    sym (weight-all (g .M·Measure·met .lawful) (c .args .row) (c .args .column .now) (c .loop-place .place) (c .loop-place .sum) (c .loop-place-test .left)) ∙ c .loop-place .inv
+    let m = g .M·Measure in
+    let all = sym (weight-all (g .M·Measure·met .lawful) (c .args .row) (c .args .column .now) (c .loop-place .place) (c .loop-place .sum) (c .loop-place-test .left)) ∙ c .loop-place .inv in
+    record {
+      joined = all;
+      nothing = λ e. all ∙ ap (λ row. weight-from (m .zero) (m .join) row 1 (c .args .column .now)) e ∙ empty-weighs (m .zero) (m .join) 1 (c .args .column .now);
+    }

@@ -1,7 +1,7 @@
 use mathlib.Core.Path.{refl}
 use native.Mathlib.Omega.{arith}
 use Rattle.net.proofs.Kept.{kept}
-use Rattle.net.proofs.Keeping.{node-added}
+use Rattle.net.proofs.Keeping.{nodes-added}
 use Rattle.net.proofs.Replies.{nodes-full}
 use Rattle.net.proofs.net.Net.add_node.Needs as need
 
@@ -10,4 +10,5 @@ returns-then-nodes-ge-MOST-NODES g c = let few = kept (c .args .self .now) .few-
 
 pub ghost-self : need.ghost-self
 ghost-self g c =
-    (tt, (c .args .self .now .fits, (∣ node-added (c .args .self .now .tables) (kept (c .args .self .now)) (omega arith) ∣₁, tt)))
+    let n = c .args .self .now in
+    (tt, (n .fits, (∣ nodes-added (n .tables) (kept n) _ (omega arith) (omega arith) ∣₁, tt)))

@@ -22,8 +22,10 @@ index-self-pipe g c =
 pub returns : need.returns
 returns g c =
     let n = c .args .self .now in
-    let is = counted (n .tables .pipes) (c .args .pipe) (c .if-not-has-pipe .ensures tt) in
-    (is-pipe n (c .args .pipe) (c .if-not-has-pipe .ensures tt), record {
-      first-end = sym (first-seen n _ (omega (arith, is .0, is .1)));
-      second-end = sym (second-seen n _ (omega (arith, is .0, is .1)));
-    })
+    let is = counted (n .tables .pipes) (c .args .pipe) (c .if-not-has-pipe .ensures tt) in (
+      is-pipe n (c .args .pipe) (c .if-not-has-pipe .ensures tt),
+      record {
+        first-end = sym (first-seen n _ (omega (arith, is .0, is .1)));
+        second-end = sym (second-seen n _ (omega (arith, is .0, is .1)));
+      },
+    )

@@ -37,7 +37,7 @@ loop-j-again g c =
     let b = e .second-in .1 in
     let more : suc (c .loop-j .j) ≡ c .loop-j .j + 1 = omega arith in
     λ v h. label-next (shape (view n)) (c .loop-j .j) (c .loop-j .labels) _ _ _ (first-seen n (c .loop-j .j) l) (second-seen n (c .loop-j .j) l) (omega arith) (omega arith)
-        (c .loop-j .inv) (c .lay .ensures) v h
+    (c .loop-j .inv) (c .lay .ensures) v h
     ∙ ap (λ i. label (shape (view n)) i v) more
 
 pub returns : need.returns

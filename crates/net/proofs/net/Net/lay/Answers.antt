@@ -14,41 +14,51 @@ use Rattle.net.proofs.net.Net.lay.Needs.{then-place-ge-MOST-PIPES·by·then-pl
 pub returns-then-place-ge-MOST-PIPES : need.returns-then-place-ge-MOST-PIPES
 returns-then-place-ge-MOST-PIPES g c =
     let n = c .args .self .now in
-    let e = pipes-seen n in
-    (pipes-full n (c .args .first) (c .args .second)
-      (counted (n .tables .nodes) (c .args .first) (c .if-not-has-node .ensures tt))
-      (counted (n .tables .nodes) (c .args .second) (c .if-not-has-node-2 .ensures tt))
-      (c .if-first-second .left)
-      (λ room. let a = room .0 in let b = room .1 in
-      elim (c .then-place-ge-MOST-PIPES .came) [
-        | then-place-ge-MOST-PIPES·by·then-place-ge-MOST-PIPES w ↦ omega arith
-        | then-place-ge-MOST-PIPES·by·else-place-ge-MOST-PIPES·then-place-self w ↦ omega arith
-      ]), refl)
+    let e = pipes-seen n in (
+      pipes-full n (c .args .first) (c .args .second)
+          (counted (n .tables .nodes) (c .args .first) (c .if-not-has-node .ensures tt))
+          (counted (n .tables .nodes) (c .args .second) (c .if-not-has-node-2 .ensures tt))
+          (c .if-first-second .left)
+          (λ room. let a = room .0 in let b = room .1 in
+          elim (c .then-place-ge-MOST-PIPES .came) [
+            | then-place-ge-MOST-PIPES·by·then-place-ge-MOST-PIPES w ↦ omega arith
+            | then-place-ge-MOST-PIPES·by·else-place-ge-MOST-PIPES·then-place-self w ↦ omega arith
+          ]),
+      refl,
+    )
 
 pub ghost-self : need.ghost-self
 ghost-self g c =
     let n = c .args .self .now in
-    let long = length-set (now (n .column)) (n .tables .pipes) (c .args .weight) in
-    (omega arith, (∣ pipe-laid (n .tables) (kept n) _
-      (record {
-        first-in = counted (n .tables .nodes) (c .args .first) (c .if-not-has-node .ensures tt);
-        second-in = counted (n .tables .nodes) (c .args .second) (c .if-not-has-node-2 .ensures tt);
-        apart = c .if-first-second .left;
-      })
-      (c .if-place-ge-MOST-PIPES .left) ∣₁, tt))
+    let a = counted (n .tables .nodes) (c .args .first) (c .if-not-has-node .ensures tt) in
+    let b = counted (n .tables .nodes) (c .args .second) (c .if-not-has-node-2 .ensures tt) in (
+      simp length-set (omega arith),
+      (
+        ∣ pipe-laid (n .tables) (kept n) _
+            (record {
+              first-in = (omega (arith, a .0, b .0), omega (arith, a .1, b .1));
+              second-in = (omega (arith, a .0, b .0), omega (arith, a .1, b .1));
+              apart = λ e. omega (arith, c .if-first-second .left);
+            })
+            _ (omega arith) (c .if-place-ge-MOST-PIPES .left) ∣₁,
+        tt,
+      ),
+    )
 
 pub returns : need.returns
 returns g c =
     let n = c .args .self .now in
     let e = pipes-seen n in
-    let few : n .tables .pipes < length (n .tables .ends) = (let k = kept n .places .0 in omega arith) in
-    (lays n (c .args .first) (c .args .second)
-      (counted (n .tables .nodes) (c .args .first) (c .if-not-has-node .ensures tt))
-      (counted (n .tables .nodes) (c .args .second) (c .if-not-has-node-2 .ensures tt))
-      (c .if-first-second .left)
-      (omega arith, omega arith), record {
-      next-number = omega arith;
-      one-more = seen-laid (n .tables .nodes) (n .tables .pipes) (n .tables .ends) (now (n .column)) (ends-for-all n) (n .fits) _ (c .args .weight) few (c .if-place-self .left);
-      rings-struck = refl;
-      next-place = ap (λ k. set (now (n .column)) k (c .args .weight)) (sym e);
-    })
+    let few : n .tables .pipes < length (n .tables .ends) = (let k = kept n .places .0 in omega arith) in (
+      lays n (c .args .first) (c .args .second)
+          (counted (n .tables .nodes) (c .args .first) (c .if-not-has-node .ensures tt))
+          (counted (n .tables .nodes) (c .args .second) (c .if-not-has-node-2 .ensures tt))
+          (c .if-first-second .left)
+          (omega arith, omega arith),
+      record {
+        next-number = omega arith;
+        one-more = seen-laid (n .tables .nodes) (n .tables .pipes) (n .tables .ends) (now (n .column)) (ends-for-all n) (n .fits) _ (c .args .weight) few (c .if-place-self .left);
+        rings-struck = refl;
+        next-place = ap (λ k. set (now (n .column)) k (c .args .weight)) (sym e);
+      },
+    )

@@ -18,17 +18,18 @@ pub ghost-self : need.ghost-self
 ghost-self g c =
     let n = c .args .self .now in
     let fits = n .fits in
-    let long = length-set (now (n .column)) (c .args .pipe - 1) (c .args .weight) in
-    (omega arith, (∣ rings-struck (n .tables) (kept n) _ (omega arith) ∣₁, tt))
+    (simp length-set (omega arith), (∣ rings-struck (n .tables) (kept n) _ (omega arith) ∣₁, tt))
 
 pub returns : need.returns
 returns g c =
     let n = c .args .self .now in
     let is = counted (n .tables .pipes) (c .args .pipe) (c .if-not-has-pipe .ensures tt) in
-    let same : c .args .pipe - 1 + 1 ≡ c .args .pipe = omega (arith, is .0) in
-    (is-pipe n (c .args .pipe) (c .if-not-has-pipe .ensures tt), record {
-      other-weight = seen-reweighed (n .tables .nodes) (n .tables .pipes) (n .tables .ends) (now (n .column)) (ends-for-all n) (n .fits) (c .args .pipe - 1) (c .args .weight)
-          ∙ ap (λ j. reweigh-pipe (view n) j (c .args .weight)) same;
-      rings-struck = refl;
-      its-place = refl;
-    })
+    let same : c .args .pipe - 1 + 1 ≡ c .args .pipe = omega (arith, is .0) in (
+      is-pipe n (c .args .pipe) (c .if-not-has-pipe .ensures tt),
+      record {
+        other-weight = seen-reweighed (n .tables .nodes) (n .tables .pipes) (n .tables .ends) (now (n .column)) (ends-for-all n) (n .fits) (c .args .pipe - 1) (c .args .weight)
+            ∙ ap (λ j. reweigh-pipe (view n) j (c .args .weight)) same;
+        rings-struck = refl;
+        its-place = refl;
+      },
+    )

@@ -14,7 +14,8 @@ returns-then-not-has-pipe g c = no-such-pipe (c .args .self .now) (c .args .pipe
 pub returns : need.returns
 returns g c =
     let n = c .args .self .now in
-    let is = counted (n .tables .pipes) (c .args .pipe) (c .if-not-has-pipe .ensures tt) in
-    (is-pipe n (c .args .pipe) (c .if-not-has-pipe .ensures tt),
+    let is = counted (n .tables .pipes) (c .args .pipe) (c .if-not-has-pipe .ensures tt) in (
+      is-pipe n (c .args .pipe) (c .if-not-has-pipe .ensures tt),
       c .index-weights-pipe .is ∙ sym (ap (λ ws. getD ws (c .args .pipe - 1) (c .index-weights-pipe .result)) (weights-seen n)
-      ∙ getD-take (n .tables .pipes) (now (n .column)) (c .args .pipe - 1) (c .index-weights-pipe .result) (omega (arith, is .0, is .1))))
+          ∙ getD-take (n .tables .pipes) (now (n .column)) (c .args .pipe - 1) (c .index-weights-pipe .result) (omega (arith, is .0, is .1))),
+    )
