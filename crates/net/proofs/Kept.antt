@@ -17,7 +17,7 @@ use Rattle.net.specs.Views.{view, rings}
 use Rattle.net.specs.declared.tables.Tables.{Tables}
 use Rattle.net.specs.declared.tables.Ends.{Ends}
 use Rattle.net.specs.declared.net.Net.{Net}
-use Rattle.net.proofs.Views.{as-many, seen-length, firsts, seconds, weighed}
+use Rattle.net.proofs.Views.{as-many, seen-length, ends-seen, weighed}
 
 joins-prop : {nodes : ℕ} {e : Ends} → IsProp (Joins nodes e)
 joins-prop x y i = record {
@@ -65,10 +65,10 @@ module _ {M : Type 0} (n : Net M) where
       getD-map f (take (n .tables .pipes) (n .tables .ends)) j nowhere 0 (omega arith) ∙ ap f (getD-take (n .tables .pipes) (n .tables .ends) j nowhere l)
 
   pub first-seen : (j : ℕ) → j < n .tables .pipes → shape (view n) .first j ≡ getD (n .tables .ends) j nowhere .first
-  first-seen j l = ap (λ xs. getD xs j 0) (firsts _ _ equal) ∙ at-place (λ e. e .first) j l
+  first-seen j l = ap (λ xs. getD xs j 0) (ends-seen (λ p. p .first) (λ e. e .first) (λ e w. refl) _ _ equal) ∙ at-place (λ e. e .first) j l
 
   pub second-seen : (j : ℕ) → j < n .tables .pipes → shape (view n) .second j ≡ getD (n .tables .ends) j nowhere .second
-  second-seen j l = ap (λ xs. getD xs j 0) (seconds _ _ equal) ∙ at-place (λ e. e .second) j l
+  second-seen j l = ap (λ xs. getD xs j 0) (ends-seen (λ p. p .second) (λ e. e .second) (λ e w. refl) _ _ equal) ∙ at-place (λ e. e .second) j l
 
   pub weights-seen : weights (view n) ≡ take (n .tables .pipes) (now (n .column))
   weights-seen = weighed _ _ equal

@@ -46,16 +46,19 @@ module _ {M : Type 0} (n : Net M) where
   pub is-pipe : (j : ℕ) → true ≡ (leb 1 j && leb j (n .tables .pipes)) → None-applies (Pipe-declined n j)
   is-pipe j h e d = let p = counted (n .tables .pipes) j h in d .1 (p .0, subst (λ k. j ≤ k) (sym (pipes-seen n)) (p .1))
 
-  module _ (a b : ℕ) (na : Node (shape (view n)) a) (nb : Node (shape (view n)) b) (ne : a ≡ b → ⊥) where
+  module _ (a b : ℕ) (is-a : true ≡ (leb 1 a && leb a (n .tables .nodes))) (is-b : true ≡ (leb 1 b && leb b (n .tables .nodes))) (ne : a ≡ b → ⊥) where
+    nodes : Node (shape (view n)) a × Node (shape (view n)) b
+    nodes = (counted (n .tables .nodes) a is-a, counted (n .tables .nodes) b is-b)
+
     pub pipes-full : (Room n → ⊥) → Smallest (Lay-declined n a b) PipesFull
     pipes-full full = the-only (no-room refl full) only
       where
         only : (f : Refusal) → Lay-declined n a b f → f ≡ PipesFull
-        only f (end-is-no-node _ bad) = absurd (bad (na, nb))
+        only f (end-is-no-node _ bad) = absurd (bad nodes)
         only f (ends-are-one _ e) = absurd (ne e)
         only f (no-room q _) = q
 
     pub lays : Room n → None-applies (Lay-declined n a b)
-    lays room e (end-is-no-node _ bad) = bad (na, nb)
+    lays room e (end-is-no-node _ bad) = bad nodes
     lays room e (ends-are-one _ q) = ne q
     lays room e (no-room _ full) = full room

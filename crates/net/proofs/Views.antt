@@ -14,15 +14,10 @@ pipe e w = record { first = e .first; second = e .second; weight = w }
 
 -- as many ends as weights: what is seen of each
 module _ {M : Type 0} where
-  pub firsts : (es : List Ends) (ws : List M) → length es ≡ length ws → map (λ p. p .first) (pipes-of es ws) ≡ map (λ e. e .first) es
-  firsts [] ws l = refl
-  firsts (e ∷ es) [] l = absurd (omega arith)
-  firsts (e ∷ es) (w ∷ ws) l = ap (λ xs. e .first ∷ xs) (firsts es ws (omega arith))
-
-  pub seconds : (es : List Ends) (ws : List M) → length es ≡ length ws → map (λ p. p .second) (pipes-of es ws) ≡ map (λ e. e .second) es
-  seconds [] ws l = refl
-  seconds (e ∷ es) [] l = absurd (omega arith)
-  seconds (e ∷ es) (w ∷ ws) l = ap (λ xs. e .second ∷ xs) (seconds es ws (omega arith))
+  pub ends-seen : (g : Pipe M → ℕ) (f : Ends → ℕ) → ((e : Ends) (w : M) → g (pipe e w) ≡ f e) → (es : List Ends) (ws : List M) → length es ≡ length ws → map g (pipes-of es ws) ≡ map f es
+  ends-seen g f h [] ws l = refl
+  ends-seen g f h (e ∷ es) [] l = absurd (omega arith)
+  ends-seen g f h (e ∷ es) (w ∷ ws) l = ap₂ (λ (x : ℕ) (xs : List ℕ). x ∷ xs) (h e w) (ends-seen g f h es ws (omega arith))
 
   pub weighed : (es : List Ends) (ws : List M) → length es ≡ length ws → map (λ p. p .weight) (pipes-of es ws) ≡ ws
   weighed [] [] l = refl

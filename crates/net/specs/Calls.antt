@@ -39,6 +39,7 @@ pub record Opened {M : Type 0} (column : List M) (n : Net M) : Type 0 where
 
 -- Add-node
 
+-- when a refusal applies to add-node
 abbrev pub Add-declined : {M : Type 0} → Net M → Refusal → Type 0
 Add-declined n e = (e ≡ NodesFull) × (view n .nodes ≡ 64)
 
@@ -58,6 +59,7 @@ Adds-node n r n′ = Replied (Add-declined n) (Added n) n r n′
 abbrev pub Room : {M : Type 0} → Net M → Type 0
 Room n = (length (view n .pipes) < 256) × (length (view n .pipes) < length (now (n .column)))
 
+-- when a refusal applies to lay
 pub data Lay-declined {M : Type 0} (n : Net M) (a b : ℕ) (e : Refusal) : Type 0 where
   end-is-no-node : e ≡ NoSuchNode → (Node (shape (view n)) a × Node (shape (view n)) b → ⊥) → Lay-declined n a b e
   ends-are-one : e ≡ OneNode → a ≡ b → Lay-declined n a b e
@@ -75,6 +77,7 @@ Lays n a b w r n′ = Replied (Lay-declined n a b) (Laid n a b w) n r n′
 
 -- Lift
 
+-- when a refusal applies to lift
 abbrev pub Lift-declined : {M : Type 0} → Net M → Refusal → Type 0
 Lift-declined n e = (e ≡ NoSuchPipe) × (view n .pipes ≡ [])
 
@@ -90,6 +93,7 @@ Lifts n r n′ = Replied (Lift-declined n) (Lifted n) n r n′
 
 -- Reweigh, and questions about a pipe
 
+-- when a refusal applies to a call that names the pipe j
 abbrev pub Pipe-declined : {M : Type 0} → Net M → ℕ → Refusal → Type 0
 Pipe-declined n j e = (e ≡ NoSuchPipe) × (Has-pipe (view n) j → ⊥)
 
@@ -110,7 +114,7 @@ pub record Ends-of {M : Type 0} (n : Net M) (j : ℕ) (e : Ends) : Type 0 where
 abbrev pub Tells-ends : {M : Type 0} → Net M → ℕ → Result Ends Refusal → Type 0
 Tells-ends n j r = Answered (Pipe-declined n j) (Ends-of n j) r
 
--- the weight of pipe j
+-- the weight of pipe j; where there is such a pipe, what stands for a missing weight (here w itself) is not read
 abbrev pub Weight-of : {M : Type 0} → Net M → ℕ → M → Type 0
 Weight-of n j w = w ≡ getD (weights (view n)) (j - 1) w
 

@@ -15,6 +15,7 @@ pub record Joins (nodes : ℕ) (e : Ends) : Type 0 where
   pub second-in : (1 ≤ e .second) × (e .second ≤ nodes)
   pub apart : e .first ≡ e .second → ⊥
 
+-- the tables have their places, the counts are in range, and every pipe leads from a node to another
 pub record Keeps (t : Tables) : Type 0 where
   pub places : (length (t .ends) ≡ 256) × (length (t .rows) ≡ 256) × (length (t .supports) ≡ 256)
   pub few-nodes : t .nodes ≤ 64

@@ -8,6 +8,7 @@ use Rattle.cycle_space.specs.Moments.{Pipe, Moment}
 use Rattle.net.specs.declared.net.Net.{Net}
 use Rattle.net.specs.declared.tables.Ends.{Ends}
 
+-- pipes, by their ends and their weights
 abbrev pub pipes-of : {M : Type 0} → List Ends → List M → List (Pipe M)
 pipes-of [] ws = []
 pipes-of (e ∷ es) [] = []
@@ -17,6 +18,6 @@ pipes-of (e ∷ es) (w ∷ ws) = record { first = e .first; second = e .second; 
 abbrev pub view : {M : Type 0} → Net M → Moment M
 view n = record { nodes = n .tables .nodes; pipes = pipes-of (take (n .tables .pipes) (n .tables .ends)) (take (n .tables .pipes) (now (n .column))) }
 
--- the rows of the rings found
+-- the rows of the rings (the cycles) found
 abbrev pub rings : {M : Type 0} → Net M → List Row
 rings n = map (λ r. r .words) (take (n .tables .found) (n .tables .rows))

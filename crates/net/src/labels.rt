@@ -1,6 +1,5 @@
 ghost use mathlib.Core.Path.{_≡_};
-ghost use Prim.Native.Nat.{ℕ, _<_, _≤_};
-ghost use lib.ListN.{length, getD};
+ghost use Prim.Native.Nat.{ℕ, _<_};
 ghost use Rattle.cycle_space.specs.Labels.{relabel, label};
 ghost use Rattle.cycle_space.specs.Moments.{shape};
 ghost use Rattle.net.specs.Views.{view};
@@ -14,7 +13,7 @@ const PLACES: usize = 65;
 
 // A label for each node, at the place of its number: two nodes have one label where the pipes laid so far join them.
 #[derive(Clone, Copy)]
-pub struct Labels {
+pub(crate) struct Labels {
     of: [usize; PLACES],
 }
 

@@ -8,6 +8,9 @@ mod theorems;
 mod weight;
 mod work;
 
+pub use cycle_space::has;
+pub use cycle_space::parity;
+pub use cycle_space::sum;
 pub use net::Net;
 pub use refusal::Refusal;
 pub use refusal::RefusalDebug;

@@ -1,3 +1,7 @@
+// Work on a net. In each contract the clause `lent` says that it is the caller's very column that the net works on, so that a caller knows what
+// the column holds when the net is gone.
+ghost use mathlib.Core.Path.{_≡_};
+ghost use denote.Ref.{name};
 ghost use Rattle.net.specs.Calls.{Opened, Adds-node, Lays, Lifts, Reweighs};
 use crate::net::Net;
 use crate::refusal::Refusal;
@@ -11,7 +15,8 @@ use measures::Measure;
 impl<'a, M: Measure> Net<'a, M> {
     // A net without nodes, pipes or rings. It is never refused.
     pub fn open(column: &'a mut [M]) -> Net<'a, M>
-        ensures { λ r. ⌜ Opened (now (column .entry)) r ⌝ }
+        ensures opened { λ r. ⌜ Opened (now (column .entry)) r ⌝ }
+        ensures lent { λ r. ⌜ name (r .column) ≡ name (column .entry) ⌝ }
     {
         let nowhere = Ends {
             first: 0,
@@ -33,7 +38,8 @@ impl<'a, M: Measure> Net<'a, M> {
 
     // One node more; answers its number. Rings found remain.
     pub fn add_node(&mut self) -> Result<usize, Refusal>
-        ensures { λ r. ⌜ Adds-node (now (self .entry)) r (now (self .exit)) ⌝ }
+        ensures replied { λ r. ⌜ Adds-node (now (self .entry)) r (now (self .exit)) ⌝ }
+        ensures lent { λ _. ⌜ name (now (self .exit) .column) ≡ name (now (self .entry) .column) ⌝ }
     {
         let nodes = self.tables.nodes;
         if nodes >= MOST_NODES {
@@ -45,7 +51,8 @@ impl<'a, M: Measure> Net<'a, M> {
 
     // One pipe more, with its weight in the next place of the column; answers its number. Rings found are struck.
     pub fn lay(&mut self, first: usize, second: usize, weight: M) -> Result<usize, Refusal>
-        ensures { λ r. ⌜ Lays (now (self .entry)) first second weight r (now (self .exit)) ⌝ }
+        ensures replied { λ r. ⌜ Lays (now (self .entry)) first second weight r (now (self .exit)) ⌝ }
+        ensures lent { λ _. ⌜ name (now (self .exit) .column) ≡ name (now (self .entry) .column) ⌝ }
     {
         if !self.tables.has_node(first) || !self.tables.has_node(second) {
             return Err(Refusal::NoSuchNode);
@@ -66,7 +73,8 @@ impl<'a, M: Measure> Net<'a, M> {
 
     // The pipe of highest number is taken away, and the column left as it is; answers the pipe's number. Rings found are struck.
     pub fn lift(&mut self) -> Result<usize, Refusal>
-        ensures { λ r. ⌜ Lifts (now (self .entry)) r (now (self .exit)) ⌝ }
+        ensures replied { λ r. ⌜ Lifts (now (self .entry)) r (now (self .exit)) ⌝ }
+        ensures lent { λ _. ⌜ name (now (self .exit) .column) ≡ name (now (self .entry) .column) ⌝ }
     {
         let pipes = self.tables.pipes;
         if pipes == 0 {
@@ -79,7 +87,8 @@ impl<'a, M: Measure> Net<'a, M> {
 
     // Another weight for one pipe. Rings found are struck.
     pub fn reweigh(&mut self, pipe: usize, weight: M) -> Result<(), Refusal>
-        ensures { λ r. ⌜ Reweighs (now (self .entry)) pipe weight r (now (self .exit)) ⌝ }
+        ensures replied { λ r. ⌜ Reweighs (now (self .entry)) pipe weight r (now (self .exit)) ⌝ }
+        ensures lent { λ _. ⌜ name (now (self .exit) .column) ≡ name (now (self .entry) .column) ⌝ }
     {
         if !self.tables.has_pipe(pipe) {
             return Err(Refusal::NoSuchPipe);

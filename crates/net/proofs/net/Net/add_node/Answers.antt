@@ -6,7 +6,9 @@ use Rattle.net.proofs.Replies.{nodes-full}
 use Rattle.net.proofs.net.Net.add_node.Needs as need
 
 pub returns-then-nodes-ge-MOST-NODES : need.returns-then-nodes-ge-MOST-NODES
-returns-then-nodes-ge-MOST-NODES g c = let few = kept (c .args .self .now) .few-nodes in (nodes-full (c .args .self .now) (omega arith), refl)
+returns-then-nodes-ge-MOST-NODES g c =
+    let few = kept (c .args .self .now) .few-nodes in
+    record { replied = (nodes-full (c .args .self .now) (omega arith), refl); lent = refl }
 
 pub ghost-self : need.ghost-self
 ghost-self g c =

@@ -15,12 +15,16 @@ ghost-self g c =
 
 pub returns : need.returns
 returns g c =
-    let n = c .args .self .now in (
-      lifts n (c .if-pipes-eq0 .left),
-      record {
-        highest-number = sym (pipes-seen n);
-        one-less = seen-lifted (n .tables .nodes) (n .tables .pipes) (n .tables .ends) (now (n .column)) (ends-for-all n) (n .fits);
-        rings-struck = refl;
-        column-stays = refl;
-      },
-    )
+    let n = c .args .self .now in
+    record {
+      replied = (
+        lifts n (c .if-pipes-eq0 .left),
+        record {
+          highest-number = sym (pipes-seen n);
+          one-less = seen-lifted (n .tables .nodes) (n .tables .pipes) (n .tables .ends) (now (n .column)) (ends-for-all n) (n .fits);
+          rings-struck = refl;
+          column-stays = refl;
+        },
+      );
+      lent = refl;
+    }
