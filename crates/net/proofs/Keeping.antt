@@ -34,27 +34,27 @@ nodes-added t k nodes up few = record {
   };
 }
 
--- ends in the next place, and at most one pipe more
-pub pipe-laid : (t : Tables) → Keeps t → (e : Ends) → Joins (t .nodes) e → (pipes : ℕ) → pipes ≤ t .pipes + 1 → t .pipes < 256
-    → Keeps (record { nodes = t .nodes; pipes = pipes; found = 0; ends = set (t .ends) (t .pipes) e; rows = t .rows; supports = t .supports })
-pipe-laid t k e h pipes up l = record {
+-- ends in the next place, at most one pipe more, and so many rings
+pub pipe-laid : (t : Tables) → Keeps t → (e : Ends) → Joins (t .nodes) e → (pipes found : ℕ) → pipes ≤ t .pipes + 1 → found ≤ 256 → t .pipes < 256
+    → Keeps (record { nodes = t .nodes; pipes = pipes; found = found; ends = set (t .ends) (t .pipes) e; rows = t .rows; supports = t .supports })
+pipe-laid t k e h pipes found up few l = record {
   places = (length-set (t .ends) (t .pipes) e ∙ k .places .0, k .places .1, k .places .2);
   few-nodes = k .few-nodes;
   few-pipes = omega arith;
-  few-rings = omega arith;
+  few-rings = few;
   joined = λ j m. elim (ℕ-discrete j (t .pipes)) [
     | yes q ↦ subst (Joins (t .nodes)) (sym (subst (λ i. getD (set (t .ends) (t .pipes) e) i nowhere ≡ e) (sym q) (getD-set-same (t .ends) (t .pipes) e nowhere (let p = k .places .0 in omega arith)))) h
     | no q ↦ subst (Joins (t .nodes)) (sym (getD-set-other (t .ends) (t .pipes) j e nowhere q)) (k .joined j (omega arith))
   ];
 }
 
--- fewer pipes, or as many, and the rings struck
-pub rings-struck : (t : Tables) → Keeps t → (pipes : ℕ) → pipes ≤ t .pipes
-    → Keeps (record { nodes = t .nodes; pipes = pipes; found = 0; ends = t .ends; rows = t .rows; supports = t .supports })
-rings-struck t k pipes l = record {
+-- fewer pipes, or as many, and so many rings
+pub no-more-pipes : (t : Tables) → Keeps t → (pipes found : ℕ) → pipes ≤ t .pipes → found ≤ 256
+    → Keeps (record { nodes = t .nodes; pipes = pipes; found = found; ends = t .ends; rows = t .rows; supports = t .supports })
+no-more-pipes t k pipes found l few = record {
   places = k .places;
   few-nodes = k .few-nodes;
   few-pipes = let h = k .few-pipes in omega arith;
-  few-rings = omega arith;
+  few-rings = few;
   joined = λ j m. k .joined j (omega arith);
 }

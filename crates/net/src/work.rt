@@ -67,7 +67,7 @@ impl<'a, M: Measure> Net<'a, M> {
         self.column[place] = weight;
         self.tables.ends[place] = Ends { first, second };
         self.tables.pipes = place + 1;
-        self.tables.found = 0;
+        self.tables.found = 0; // a lighter ring may go over the new pipe
         Ok(place + 1)
     }
 
@@ -81,7 +81,7 @@ impl<'a, M: Measure> Net<'a, M> {
             return Err(Refusal::NoSuchPipe);
         }
         self.tables.pipes = pipes - 1;
-        self.tables.found = 0;
+        self.tables.found = 0; // a ring may have lost its pipe
         Ok(pipes)
     }
 
@@ -94,7 +94,7 @@ impl<'a, M: Measure> Net<'a, M> {
             return Err(Refusal::NoSuchPipe);
         }
         self.column[pipe - 1] = weight;
-        self.tables.found = 0;
+        self.tables.found = 0; // a ring may have become too heavy
         Ok(())
     }
 }

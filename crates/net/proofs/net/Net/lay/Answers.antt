@@ -29,6 +29,7 @@ returns-then-place-ge-MOST-PIPES g c =
 pub ghost-self : need.ghost-self
 ghost-self g c =
     let n = c .args .self .now in
+    let few = kept n .few-rings in
     let a = counted (n .tables .nodes) (c .args .first) (c .if-not-has-node .ensures tt) in
     let b = counted (n .tables .nodes) (c .args .second) (c .if-not-has-node-2 .ensures tt) in (
       simp length-set (omega arith),
@@ -39,7 +40,7 @@ ghost-self g c =
               second-in = (omega (arith, a .0, b .0), omega (arith, a .1, b .1));
               apart = λ e. omega (arith, c .if-first-second .left);
             })
-            _ (omega arith) (c .if-place-ge-MOST-PIPES .left) ∣₁,
+            _ _ (omega arith) (omega arith) (c .if-place-ge-MOST-PIPES .left) ∣₁,
         tt,
       ),
     )

@@ -2,7 +2,7 @@ use mathlib.Core.Path.{refl, sym}
 use native.Mathlib.Omega.{arith}
 use denote.Ref.{now}
 use Rattle.net.proofs.Kept.{kept, ends-for-all, pipes-seen}
-use Rattle.net.proofs.Keeping.{rings-struck}
+use Rattle.net.proofs.Keeping.{no-more-pipes}
 use Rattle.net.proofs.Replies.{lifts}
 use Rattle.net.proofs.Views.{seen-lifted}
 use Rattle.net.proofs.net.Net.lift.Needs as need
@@ -11,7 +11,8 @@ pub ghost-self : need.ghost-self
 ghost-self g c =
     let n = c .args .self .now in
     let fits = n .fits in
-    (omega arith, (∣ rings-struck (n .tables) (kept n) _ (omega arith) ∣₁, tt))
+    let few = kept n .few-rings in
+    (omega arith, (∣ no-more-pipes (n .tables) (kept n) _ _ (omega arith) (omega arith) ∣₁, tt))
 
 pub returns : need.returns
 returns g c =

@@ -6,7 +6,7 @@ use Rattle.std.proofs.shelf.Lists.{length-set}
 use Rattle.cycle_space.specs.Moments.{reweigh-pipe}
 use Rattle.net.specs.Views.{view}
 use Rattle.net.proofs.Kept.{kept, ends-for-all}
-use Rattle.net.proofs.Keeping.{rings-struck}
+use Rattle.net.proofs.Keeping.{no-more-pipes}
 use Rattle.net.proofs.Replies.{counted, no-such-pipe, is-pipe}
 use Rattle.net.proofs.Views.{seen-reweighed}
 use Rattle.net.proofs.net.Net.reweigh.Needs as need
@@ -18,7 +18,8 @@ pub ghost-self : need.ghost-self
 ghost-self g c =
     let n = c .args .self .now in
     let fits = n .fits in
-    (simp length-set (omega arith), (∣ rings-struck (n .tables) (kept n) _ (omega arith) ∣₁, tt))
+    let few = kept n .few-rings in
+    (simp length-set (omega arith), (∣ no-more-pipes (n .tables) (kept n) _ _ (omega arith) (omega arith) ∣₁, tt))
 
 pub returns : need.returns
 returns g c =
