@@ -1,11 +1,11 @@
 -- Nets at a moment, as they are changed. Assumes nothing.
-use mathlib.Core.Path.{_≡_, refl, sym, _∙_, ap, ap₂}
+use mathlib.Core.Path.{_≡_, refl, _∙_, ap, ap₂}
 use mathlib.Core.List.{List, [], _∷_, _++_, map}
 use Prim.Native.Nat.{ℕ, zero, suc, _+_, _-_}
 use native.Mathlib.Omega.{arith}
 use lib.ListN.{length, set, take}
 use Rattle.std.proofs.shelf.Lists.{length-append}
-use Rattle.cycle_space.specs.Moments.{Pipe, Moment, drawn, reweighed, Moment-laws}
+use Rattle.cycle_space.specs.Moments.{Pipe, drawn, reweighed, Moment-laws}
 
 module _ {M : Type 0} where
   take-front : (ps qs : List (Pipe M)) → take (length ps) (ps ++ qs) ≡ ps

@@ -50,6 +50,7 @@ add-pipe n a b w = record { nodes = n .nodes; pipes = n .pipes ++ (record { firs
 abbrev pub drop-last : {M : Type 0} → Moment M → Moment M
 drop-last n = record { nodes = n .nodes; pipes = take (length (n .pipes) - 1) (n .pipes) }
 
+-- pipes with another weight at the place j
 abbrev pub reweighed : {M : Type 0} → List (Pipe M) → ℕ → M → List (Pipe M)
 reweighed [] j w = []
 reweighed (p ∷ ps) zero w = record { first = p .first; second = p .second; weight = w } ∷ ps

@@ -13,6 +13,7 @@ pub record Shape : Type 0 where
   pub first : ℕ → ℕ
   pub second : ℕ → ℕ
 
+-- v is a node
 abbrev pub Node : Shape → ℕ → Type 0
 Node N v = (1 ≤ v) × (v ≤ N .nodes)
 

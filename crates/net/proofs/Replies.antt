@@ -1,12 +1,11 @@
 -- Which refusals apply to a call, by the tests that the program makes. Assumes nothing.
 use mathlib.Core.Path.{_≡_, refl, sym, _∙_, ap, subst}
-use mathlib.Core.Bool.{Bool, true, false, _&&_}
-use mathlib.Core.List.{List, []}
-use Prim.Native.Nat.{ℕ, _≤_, _<_}
+use mathlib.Core.Bool.{true, false, _&&_}
+use mathlib.Core.List.{[]}
+use Prim.Native.Nat.{ℕ, _≤_}
 use native.Mathlib.Omega.{arith}
 use lib.Dec.{leb}
 use lib.ListN.{length}
-use denote.Ref.{now}
 use borrow.Author.Tests.{leb-true, both-ways}
 use Rattle.std.proofs.shelf.Tests.{and-parts, and-from, le-leb}
 use Rattle.cycle_space.specs.Shapes.{Node}
@@ -16,7 +15,7 @@ use Rattle.net.specs.Views.{view}
 use Rattle.net.specs.Calls.{Add-declined, Lay-declined, end-is-no-node, ends-are-one, no-room, Room, Lift-declined, Pipe-declined}
 use Rattle.net.specs.declared.net.Net.{Net}
 use Rattle.net.specs.declared.refusal.Refusal.{Refusal}
-use Rattle.net.specs.declared.refusal.Refusal.the-variants.{NodesFull, NoSuchNode, OneNode, PipesFull, NoSuchPipe}
+use Rattle.net.specs.declared.refusal.Refusal.the-variants.{NodesFull, PipesFull, NoSuchPipe}
 use Rattle.net.proofs.Kept.{pipes-seen}
 
 -- a number from 1 to n, by the test for one

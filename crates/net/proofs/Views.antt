@@ -3,7 +3,7 @@ use mathlib.Core.Path.{_≡_, refl, sym, _∙_, ap, ap₂}
 use mathlib.Core.List.{List, [], _∷_, _++_, map}
 use Prim.Native.Nat.{ℕ, zero, suc, _≤_, _<_, _+_, _-_}
 use native.Mathlib.Omega.{arith}
-use lib.ListN.{length, getD, set, take}
+use lib.ListN.{length, set, take}
 use Rattle.std.proofs.shelf.Lists.{take-more-set, take-take, length-take-le}
 use Rattle.cycle_space.specs.Moments.{Pipe, Moment, weights, add-pipe, drop-last, reweighed, reweigh-pipe}
 use Rattle.net.specs.Views.{pipes-of}

@@ -7,7 +7,7 @@ use native.Mathlib.Omega.{arith}
 use lib.ListN.{length, getD, drop}
 use Rattle.std.proofs.shelf.Lists.{at-drop-more, at-drop-all}
 use Rattle.measures.specs.Laws.{Laws}
-use Rattle.cycle_space.specs.Rows.{Row, holds, add2, sum, empty, Four-words}
+use Rattle.cycle_space.specs.Rows.{Row, holds, add2, sum, empty}
 use Rattle.cycle_space.specs.Moments.{weight-from, weights, Weight-laws}
 use Rattle.cycle_space.proofs.Bits.{empty-bit, sum-holds}
 

@@ -6,7 +6,7 @@ use lib.ListN.{length, getD, set, replicate}
 use denote.Ref.{now}
 use Rattle.cycle_space.specs.Rows.{empty}
 use Rattle.cycle_space.specs.Shapes.{Node}
-use Rattle.cycle_space.specs.Moments.{Moment, shape, weights, Has-pipe, bare, add-node, add-pipe, drop-last, reweigh-pipe}
+use Rattle.cycle_space.specs.Moments.{shape, weights, Has-pipe, bare, add-node, add-pipe, drop-last, reweigh-pipe}
 use Rattle.net.specs.Refusals.{None-applies, Smallest}
 use Rattle.net.specs.Views.{view, rings}
 use Rattle.net.specs.declared.net.Net.{Net}

@@ -1,6 +1,5 @@
 -- What is seen of a net: its nodes, pipes and weights, and the rings found. Assumes nothing.
 use mathlib.Core.List.{List, [], _∷_, map}
-use Prim.Native.Nat.{ℕ}
 use lib.ListN.{take}
 use denote.Ref.{now}
 use Rattle.cycle_space.specs.Rows.{Row}

@@ -7,7 +7,7 @@ use net::*;
 use std::test::*;
 
 // A net of so many nodes and these pipes, all of length 1.
-fn built<'a>(
+pub(crate) fn built<'a>(
     column: &'a mut [Length],
     nodes: usize,
     pipes: &[(usize, usize)],

@@ -1,17 +1,11 @@
 // An example for each refusal that a net without rings can give, and the last call that is still taken.
+use crate::nets::built;
 use measures::Length;
+use measures::LengthDebug;
 use measures::LengthMeasure;
+use measures::LengthPartialEq;
 use net::*;
 use std::test::*;
-
-// A net of so many nodes, over the column.
-fn with_nodes<'a>(column: &'a mut [Length], nodes: usize) -> Result<Net<'a, Length>, Refusal> {
-    let mut net = Net::open(column);
-    for _ in 0..nodes {
-        net.add_node()?;
-    }
-    Ok(net)
-}
 
 fn one() -> Length {
     Length::new(1)
@@ -20,7 +14,7 @@ fn one() -> Length {
 #[test]
 fn the_64th_node_is_taken_and_the_65th_declined() -> Result<(), Fail> {
     let mut column = [one(); 1];
-    let mut net = with_nodes(&mut column, 63)?;
+    let mut net = built(&mut column, 63, &[])?;
     check_eq(net.add_node(), Ok(64))?;
     check_eq(net.add_node(), Err(Refusal::NodesFull))?;
     check_eq(net.nodes(), 64)?;
@@ -30,7 +24,7 @@ fn the_64th_node_is_taken_and_the_65th_declined() -> Result<(), Fail> {
 #[test]
 fn an_end_has_to_be_a_node() -> Result<(), Fail> {
     let mut column = [one(); 3];
-    let mut net = with_nodes(&mut column, 2)?;
+    let mut net = built(&mut column, 2, &[])?;
     check_eq(net.lay(1, 3, one()), Err(Refusal::NoSuchNode))?;
     check_eq(net.lay(0, 1, one()), Err(Refusal::NoSuchNode))?;
     check_eq(net.pipes(), 0)?;
@@ -40,7 +34,7 @@ fn an_end_has_to_be_a_node() -> Result<(), Fail> {
 #[test]
 fn the_ends_have_to_be_two() -> Result<(), Fail> {
     let mut column = [one(); 3];
-    let mut net = with_nodes(&mut column, 2)?;
+    let mut net = built(&mut column, 2, &[])?;
     check_eq(net.lay(2, 2, one()), Err(Refusal::OneNode))?;
     check_eq(net.lay(3, 3, one()), Err(Refusal::NoSuchNode))?;
     check_eq(Refusal::OneNode.number(), 3)
@@ -49,7 +43,7 @@ fn the_ends_have_to_be_two() -> Result<(), Fail> {
 #[test]
 fn the_column_has_to_have_a_place() -> Result<(), Fail> {
     let mut column = [one(); 3];
-    let mut net = with_nodes(&mut column, 2)?;
+    let mut net = built(&mut column, 2, &[])?;
     for pipe in 1..4usize {
         check_eq(net.lay(1, 2, one()), Ok(pipe))?;
     }
@@ -62,7 +56,7 @@ fn the_column_has_to_have_a_place() -> Result<(), Fail> {
 #[test]
 fn the_256th_pipe_is_taken_and_the_257th_declined() -> Result<(), Fail> {
     let mut column = [one(); 300];
-    let mut net = with_nodes(&mut column, 2)?;
+    let mut net = built(&mut column, 2, &[])?;
     for _ in 0..255 {
         net.lay(1, 2, one())?;
     }
@@ -74,12 +68,13 @@ fn the_256th_pipe_is_taken_and_the_257th_declined() -> Result<(), Fail> {
 #[test]
 fn a_pipe_has_to_be_there() -> Result<(), Fail> {
     let mut column = [one(); 3];
-    let mut net = with_nodes(&mut column, 2)?;
+    let mut net = built(&mut column, 2, &[])?;
     check_eq(net.lift(), Err(Refusal::NoSuchPipe))?;
     net.lay(1, 2, one())?;
     check_eq(net.reweigh(2, one()), Err(Refusal::NoSuchPipe))?;
     check_eq(net.reweigh(0, one()), Err(Refusal::NoSuchPipe))?;
     check_eq(net.ends(2), Err(Refusal::NoSuchPipe))?;
-    check(net.weight(2).is_err())?;
+    check_eq(net.weight(2), Err(Refusal::NoSuchPipe))?;
+    check_eq(net.weight(1), Ok(one()))?;
     check_eq(Refusal::NoSuchPipe.number(), 5)
 }
