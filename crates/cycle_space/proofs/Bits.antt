@@ -1,5 +1,5 @@
 -- The bits of words and of rows: a row is known by its pipes, and the laws of the sum. Assumes nothing.
-use Rattle.std.proofs.Common.{◌≡◌, ℕ, zero, suc, ◌+◌, ◌-◌, ◌*◌, ◌/◌, ◌%◌, ◌^◌, ◌<◌, ◌≤◌, Bool, true, false, cond, ◌&&◌, eqb, ◌⊎◌, [], ◌∷◌, length, get_or, sym, refl, ap, ◌∙◌, subst, ap₂, inl, inr, pow_suc, arith, shr_shr}
+use Rattle.std.proofs.Common.{◌≡◌, ℕ, zero, suc, ◌+◌, ◌-◌, ◌*◌, ◌/◌, ◌%◌, ◌^◌, ◌<◌, ◌≤◌, Bool, true, false, cond, ◌&&◌, eqb, ◌⊎◌, [], ◌∷◌, length, get_or, sym, refl, ap, ◌∙◌, subst, ap₂, inl, inr, pow-suc, arith, shr-shr}
 use native.Mathlib.Decide.{dec_lt}
 use borrow.Author.Tests.{both_ways}
 use lib.Bits.{bit_and, bit_xor, and_shr, and_mod, xor_shr, xor_mod, xor_lt}
@@ -48,7 +48,7 @@ pub bit_low : (n : ℕ) → bit_at n 0 ≡ eqb (n % 2) 1
 bit_low n = ap (λ x. eqb (x % 2) 1) (let q : n / 2 ^ 0 ≡ n = omega arith in q)
 
 pub bit_suc : (n j : ℕ) → bit_at n (suc j) ≡ bit_at (n / 2) j
-bit_suc n j = ap (λ x. eqb (x % 2) 1) (ap (λ x. n / 2 ^ x) (omega arith) ∙ sym (shr_shr n 1 j))
+bit_suc n j = ap (λ x. eqb (x % 2) 1) (ap (λ x. n / 2 ^ x) (omega arith) ∙ sym (shr-shr n 1 j))
 
 same_low : (a b : ℕ) → eqb (a % 2) 1 ≡ eqb (b % 2) 1 → a % 2 ≡ b % 2
 same_low a b =
@@ -60,7 +60,7 @@ same_low a b =
 pub word_known : (k a b : ℕ) → a < 2 ^ k → b < 2 ^ k → ((j : ℕ) → j < k → bit_at a j ≡ bit_at b j) → a ≡ b
 word_known zero a b la lb h = omega arith
 word_known (suc k) a b la lb h =
-    let p = pow_suc 2 k in
+    let p = pow-suc 2 k in
     let low = same_low a b (sym (bit_low a) ∙ h 0 (omega arith) ∙ bit_low b) in
     let high = word_known k (a / 2) (b / 2) (omega arith) (omega arith) (λ j l. sym (bit_suc a j) ∙ h (suc j) (omega arith) ∙ bit_suc b j) in
     omega arith
@@ -98,7 +98,7 @@ at_most_one false = omega arith
 word_lt : (k : ℕ) (f : ℕ → Bool) → word_of k f < 2 ^ k
 unfolding word_of
 word_lt zero f = omega arith
-word_lt (suc k) f = let r = word_lt k (λ j. f (suc j)) in let s = at_most_one (f 0) in let p = pow_suc 2 k in omega arith
+word_lt (suc k) f = let r = word_lt k (λ j. f (suc j)) in let s = at_most_one (f 0) in let p = pow-suc 2 k in omega arith
 
 word_bit : (k : ℕ) (f : ℕ → Bool) (j : ℕ) → j < k → bit_at (word_of k f) j ≡ f j
 unfolding word_of

@@ -1,24 +1,24 @@
 -- Cases on two numbers by a test, and truth values with their addition and product over GF(2). Assumes nothing.
-use Rattle.std.proofs.Common.{◌≡◌, ℕ, ◌≤◌, Bool, true, false, ◌&&◌, eqb, leb, ◌⊎◌, sym, refl, ap, inl, inr, arith, eq_eqb, eqb_true, leb_false, leb_true}
-use borrow.Author.Tests.{eqb_false}
+use Rattle.std.proofs.Common.{◌≡◌, ℕ, ◌≤◌, Bool, true, false, ◌&&◌, eqb, leb, ◌⊎◌, sym, refl, ap, inl, inr, arith, eq-eqb, eqb-true, leb-false, leb-true}
+use borrow.Author.Tests.{eqb-false}
 use Rattle.cycle_space.specs.Rows.{add2}
 
 pub by_eqb : (P : Bool → Type 0) (a b : ℕ) → (a ≡ b → P true) → ((a ≡ b → ⊥) → P false) → P (eqb a b)
 by_eqb P a b y n = go (eqb a b) refl
   where
     go : (t : Bool) → eqb a b ≡ t → P t
-    go true q = y (eqb_true a b q)
-    go false q = n (eqb_false a b q)
+    go true q = y (eqb-true a b q)
+    go false q = n (eqb-false a b q)
 
 pub by_le : (p q : ℕ) → (p ≤ q) ⊎ (q ≤ p)
 by_le p q = go (leb p q) refl
   where
     go : (b : Bool) → leb p q ≡ b → (p ≤ q) ⊎ (q ≤ p)
-    go true e = inl (leb_true p q e)
-    go false e = let l = leb_false p q e in inr (omega arith)
+    go true e = inl (leb-true p q e)
+    go false e = let l = leb-false p q e in inr (omega arith)
 
 pub eqb_same : (a : ℕ) → eqb a a ≡ true
-eqb_same a = eq_eqb a a refl
+eqb_same a = eq-eqb a a refl
 
 -- false unless absurd
 pub not_so : (b : Bool) → (b ≡ true → ⊥) → b ≡ false

@@ -2,7 +2,7 @@
 use Rattle.std.proofs.Common.{◌≡◌, ℕ, zero, suc, ◌<◌, ◌≤◌, Bool, true, false, cond, ◌&&◌, eqb, List, map, length, get_or, sym, refl, ap, ◌∙◌, subst, ap₂, inl, inr, arith}
 use mathlib.Core.Path.{fun_ext}
 use native.Mathlib.Decide.{dec_lt}
-use Rattle.std.proofs.lemmas.List.{length_map, get_or_map}
+use Rattle.std.proofs.lemmas.List.{length-map, get_or-map}
 use Rattle.cycle_space.specs.Sums.{fold, count}
 use Rattle.cycle_space.specs.Rows.{Row, bit, row_of, empty, add2, odd}
 use Rattle.cycle_space.specs.Moments.{Pipe, Moment, shape, weights, weight}
@@ -70,33 +70,33 @@ module _ {M : Type 0} {zero' : M} {join : M → M → M} (g : Comm zero' join) (
 
   carry_boundary : (x : ℕ → Bool) (v : ℕ) → boundary (shape n) (carry p.to x) v ≡ boundary (shape n') x v
   carry_boundary x v =
-      ap (λ k. fold false add2 k (λ j. x (p.to j) && ends ((shape n).first j) ((shape n).second j) v)) (length_map n.pipes (λ q. q.first))
+      ap (λ k. fold false add2 k (λ j. x (p.to j) && ends ((shape n).first j) ((shape n).second j) v)) (length-map n.pipes (λ q. q.first))
       ∙ fold_same bits (length n.pipes) (λ j. x (p.to j) && ends ((shape n).first j) ((shape n).second j) v) (λ j. x (p.to j) && ends ((shape n').first (p.to j)) ((shape n').second (p.to j)) v)
       (λ j l. ap (λ b. x (p.to j) && b) (same_ends j l))
       ∙ sym (permuted bits (length n.pipes) p.to turns (λ j. x j && ends ((shape n').first j) ((shape n').second j) v))
-      ∙ ap (λ k. fold false add2 k (λ j. x j && ends ((shape n').first j) ((shape n').second j) v)) (p.long ∙ sym (length_map n'.pipes (λ q. q.first)))
+      ∙ ap (λ k. fold false add2 k (λ j. x j && ends ((shape n').first j) ((shape n').second j) v)) (p.long ∙ sym (length-map n'.pipes (λ q. q.first)))
     where
       same_ends : (j : ℕ) → j < length n.pipes → ends ((shape n).first j) ((shape n).second j) v ≡ ends ((shape n').first (p.to j)) ((shape n').second (p.to j)) v
       same_ends j l =
           let l' : p.to j < length n'.pipes = (let a = p.to_in j l in let b = p.long in omega arith) in
-          ap₂ (λ a b. ends a b v) (get_or_map (λ (q : Pipe M). q.first) n.pipes j (nowhere zero') 0 l) (get_or_map (λ (q : Pipe M). q.second) n.pipes j (nowhere zero') 0 l)
+          ap₂ (λ a b. ends a b v) (get_or-map (λ (q : Pipe M). q.first) n.pipes j (nowhere zero') 0 l) (get_or-map (λ (q : Pipe M). q.second) n.pipes j (nowhere zero') 0 l)
           ∙ sym (links_match (get_or n.pipes j (nowhere zero')) (get_or n'.pipes (p.to j) (nowhere zero')) v (p.fits j l).links)
-          ∙ sym (ap₂ (λ a b. ends a b v) (get_or_map (λ (q : Pipe M). q.first) n'.pipes (p.to j) (nowhere zero') 0 l') (get_or_map (λ (q : Pipe M). q.second) n'.pipes (p.to j) (nowhere zero') 0 l'))
+          ∙ sym (ap₂ (λ a b. ends a b v) (get_or-map (λ (q : Pipe M). q.first) n'.pipes (p.to j) (nowhere zero') 0 l') (get_or-map (λ (q : Pipe M). q.second) n'.pipes (p.to j) (nowhere zero') 0 l'))
 
   carry_heft : (x : ℕ → Bool) → heft zero' join (weights n) (carry p.to x) ≡ heft zero' join (weights n') x
   carry_heft x =
-      ap (λ k. fold zero' join k (λ j. cond (x (p.to j)) (get_or (weights n) j zero') zero')) (length_map n.pipes (λ q. q.weight))
+      ap (λ k. fold zero' join k (λ j. cond (x (p.to j)) (get_or (weights n) j zero') zero')) (length-map n.pipes (λ q. q.weight))
       ∙ fold_same g (length n.pipes) (λ j. cond (x (p.to j)) (get_or (weights n) j zero') zero') (λ j. cond (x (p.to j)) (get_or (weights n') (p.to j) zero') zero')
       (λ j l. ap (λ w. cond (x (p.to j)) w zero') (same_weight j l))
       ∙ sym (permuted g (length n.pipes) p.to turns (λ j. cond (x j) (get_or (weights n') j zero') zero'))
-      ∙ ap (λ k. fold zero' join k (λ j. cond (x j) (get_or (weights n') j zero') zero')) (p.long ∙ sym (length_map n'.pipes (λ q. q.weight)))
+      ∙ ap (λ k. fold zero' join k (λ j. cond (x j) (get_or (weights n') j zero') zero')) (p.long ∙ sym (length-map n'.pipes (λ q. q.weight)))
     where
       same_weight : (j : ℕ) → j < length n.pipes → get_or (weights n) j zero' ≡ get_or (weights n') (p.to j) zero'
       same_weight j l =
           let l' : p.to j < length n'.pipes = (let a = p.to_in j l in let b = p.long in omega arith) in
-          get_or_map (λ (q : Pipe M). q.weight) n.pipes j (nowhere zero') zero' l
+          get_or-map (λ (q : Pipe M). q.weight) n.pipes j (nowhere zero') zero' l
           ∙ sym (p.fits j l).weighs
-          ∙ sym (get_or_map (λ (q : Pipe M). q.weight) n'.pipes (p.to j) (nowhere zero') zero' l')
+          ∙ sym (get_or-map (λ (q : Pipe M). q.weight) n'.pipes (p.to j) (nowhere zero') zero' l')
 
   carry_cycle : (x : ℕ → Bool) → Cycle (shape n') x → Cycle (shape n) (carry p.to x)
   carry_cycle x c = record {
@@ -105,8 +105,8 @@ module _ {M : Type 0} {zero' : M} {join : M → M → M} (g : Comm zero' join) (
       | yes h ↦ absurd (
           let a = p.from_in (p.to j) (let e = p.long in omega arith) in
           let b = p.back j in
-          let e = length_map n.pipes (λ q. q.first) in omega arith)
-      | no h ↦ c.bounded (p.to j) (let e = length_map n'.pipes (λ q. q.first) in omega arith)
+          let e = length-map n.pipes (λ q. q.first) in omega arith)
+      | no h ↦ c.bounded (p.to j) (let e = length-map n'.pipes (λ q. q.first) in omega arith)
     ];
   }
 

@@ -1,5 +1,5 @@
 -- Closing pipes: a closed set without one is empty, and each has a closed set of its own. Assumes nothing.
-use Rattle.std.proofs.Common.{◌≡◌, ℕ, zero, suc, ◌+◌, ◌<◌, ◌≤◌, Bool, true, false, eqb, ◌⊎◌, sym, refl, ap, ◌∙◌, subst, ap₂, inl, inr, arith, eqb_true}
+use Rattle.std.proofs.Common.{◌≡◌, ℕ, zero, suc, ◌+◌, ◌<◌, ◌≤◌, Bool, true, false, eqb, ◌⊎◌, sym, refl, ap, ◌∙◌, subst, ap₂, inl, inr, arith, eqb-true}
 use borrow.Author.Tests.{both_ways}
 use Rattle.cycle_space.specs.Rows.{add2}
 use Rattle.cycle_space.specs.Shapes.{Shape, Run, stay, cross, Closing}
@@ -63,7 +63,7 @@ tree_at N k l f = go (closes N k) refl
   where
     go : (b : Bool) → closes N k ≡ b → Tree N (suc k) (N.first k) (N.second k)
     go true e = tree_up N k (N.first k) (N.second k) (tree_run N k f (N.first k) (N.second k) ((closing_decided N k).0 e))
-    go false e = (λ i. eqb i k, λ j h. let q = eqb_true j k h in (omega arith, ap (closes N) q ∙ e), bd_one N k l)
+    go false e = (λ i. eqb i k, λ j h. let q = eqb-true j k h in (omega arith, ap (closes N) q ∙ e), bd_one N k l)
 
 trees : (N : Shape) (k : ℕ) → k ≤ N.pipes → (j : ℕ) → j < k → Tree N k (N.first j) (N.second j)
 trees N zero l j h = absurd (omega arith)

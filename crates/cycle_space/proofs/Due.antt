@@ -1,6 +1,6 @@
 -- The due number: there is one, and it is the number of closing pipes. Assumes nothing.
-use Rattle.std.proofs.Common.{◌≡◌, ℕ, zero, suc, ◌+◌, ◌<◌, ◌≤◌, min, max, Bool, true, false, cond, eqb, ◌⊎◌, sym, refl, ap, ◌∙◌, subst, inl, inr, arith, eq_eqb, ne_eqb, eqb_true}
-use borrow.Author.Tests.{eqb_false}
+use Rattle.std.proofs.Common.{◌≡◌, ℕ, zero, suc, ◌+◌, ◌<◌, ◌≤◌, min, max, Bool, true, false, cond, eqb, ◌⊎◌, sym, refl, ap, ◌∙◌, subst, inl, inr, arith, eq-eqb, ne_eqb, eqb-true}
+use borrow.Author.Tests.{eqb-false}
 use Rattle.cycle_space.specs.Rows.{add2}
 use Rattle.cycle_space.specs.Shapes.{Shape, EndsAreNodes, Parts, Due, Closing, Exactly, DueIsClosing}
 use Rattle.cycle_space.specs.Labels.{relabel, label, closes}
@@ -37,9 +37,9 @@ root_next N k p q lp lq ne v =
     by_eqb (λ c. eqb (relabel p q (label N k v)) v ≡ add2 (eqb (label N k v) v) c) v (max p q)
     (λ e.
     let lv : label N k v ≡ v = ap (label N k) e ∙ one_of N k p q (max p q) lp lq (which_max p q) ∙ sym e in
-    ap (λ c. eqb (cond c (min p q) (label N k v)) v) (eq_eqb (label N k v) (max p q) (lv ∙ e))
+    ap (λ c. eqb (cond c (min p q) (label N k v)) v) (eq-eqb (label N k v) (max p q) (lv ∙ e))
     ∙ ne_eqb (min p q) v (λ h. ne (omega arith))
-    ∙ sym (ap (λ c. add2 c true) (eq_eqb (label N k v) v lv)))
+    ∙ sym (ap (λ c. add2 c true) (eq-eqb (label N k v) v lv)))
     (λ n. by_eqb (λ c. eqb (cond c (min p q) (label N k v)) v ≡ add2 (eqb (label N k v) v) false) (label N k v) (max p q)
     (λ lm.
     ne_eqb (min p q) v (λ h. n (still h ∙ lm))
@@ -64,18 +64,18 @@ due_after N g (suc k) l = go (due_after N g k (omega arith)) (closes N k) refl
     go : count k (closes N) + suc N.nodes ≡ k + count (suc N.nodes) (root N k) → (b : Bool) → closes N k ≡ b
         → cond b 1 0 + count k (closes N) + suc N.nodes ≡ suc k + count (suc N.nodes) (root N (suc k))
     go ih true e =
-        let s = count_same (suc N.nodes) (root N (suc k)) (root N k) (λ v _. ap (λ l. eqb l v) (relabel_same p q (label N k v) (eqb_true p q e))) in
+        let s = count_same (suc N.nodes) (root N (suc k)) (root N k) (λ v _. ap (λ l. eqb l v) (relabel_same p q (label N k v) (eqb-true p q e))) in
         omega arith
     go ih false e =
         let lp = label_label N k (N.first k) in
         let lq = label_label N k (N.second k) in
-        let s = count_same (suc N.nodes) (root N (suc k)) (flip (root N k) (max p q)) (λ v _. root_next N k p q lp lq (eqb_false p q e) v) in
-        let p_le = label_le N k (N.first k) in
-        let q_le = label_le N k (N.second k) in
+        let s = count_same (suc N.nodes) (root N (suc k)) (flip (root N k) (max p q)) (λ v _. root_next N k p q lp lq (eqb-false p q e) v) in
+        let p-le = label_le N k (N.first k) in
+        let q-le = label_le N k (N.second k) in
         let first_in = (g k l).0.1 in
         let second_in = (g k l).1.1 in
         let low : max p q < suc N.nodes = omega arith in
-        let o = count_out (suc N.nodes) (root N k) (max p q) low (eq_eqb (label N k (max p q)) (max p q) (one_of N k p q (max p q) lp lq (which_max p q))) in
+        let o = count_out (suc N.nodes) (root N k) (max p q) low (eq-eqb (label N k (max p q)) (max p q) (one_of N k p q (max p q) lp lq (which_max p q))) in
         omega arith
 
 pub due_by_labels : (N : Shape) → EndsAreNodes N
@@ -83,7 +83,7 @@ pub due_by_labels : (N : Shape) → EndsAreNodes N
 due_by_labels N g =
     let c = due_after N g N.pipes (omega arith) in
     let front = count_front N.nodes (root N N.pipes) in
-    let zeroth : ◌≡◌ {A = ℕ} (cond (root N N.pipes 0) 1 0) 1 = ap (λ b. cond b 1 0) (eq_eqb (label N N.pipes 0) 0 (let p = label_le N N.pipes 0 in omega arith)) in
+    let zeroth : ◌≡◌ {A = ℕ} (cond (root N N.pipes 0) 1 0) 1 = ap (λ b. cond b 1 0) (eq-eqb (label N N.pipes 0) 0 (let p = label_le N N.pipes 0 in omega arith)) in
     omega arith
 
 pub due_rank : (N : Shape) → EndsAreNodes N → Due N (rank N)

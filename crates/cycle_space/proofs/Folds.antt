@@ -1,5 +1,5 @@
 -- Finite sums in a commutative monoid. Assumes nothing.
-use Rattle.std.proofs.Common.{◌≡◌, ℕ, zero, suc, ◌+◌, ◌<◌, Bool, true, false, cond, ◌&&◌, eqb, sym, refl, ap, ◌∙◌, ap₂, add_zero, add_suc, arith}
+use Rattle.std.proofs.Common.{◌≡◌, ℕ, zero, suc, ◌+◌, ◌<◌, Bool, true, false, cond, ◌&&◌, eqb, sym, refl, ap, ◌∙◌, ap₂, add-zero, add-suc, arith}
 use borrow.Author.Tests.{both_ways}
 use Rattle.cycle_space.specs.Sums.{fold}
 use Rattle.cycle_space.specs.Rows.{add2}
@@ -54,9 +54,9 @@ module _ {M : Type 0} {e : M} {op : M → M → M} (g : Comm e op) where
   -- cut in two after the first a values
   pub fold_add : (a b : ℕ) (u : ℕ → M) → fold e op (a + b) u ≡ op (fold e op b (λ j. u (a + j))) (fold e op a u)
   unfolding fold
-  fold_add a zero u = ap (λ n. fold e op n u) (add_zero a) ∙ sym (g.left (fold e op a u))
+  fold_add a zero u = ap (λ n. fold e op n u) (add-zero a) ∙ sym (g.left (fold e op a u))
   fold_add a (suc b) u =
-      ap (λ n. fold e op n u) (add_suc a b) ∙ ap (op (u (a + b))) (fold_add a b u)
+      ap (λ n. fold e op n u) (add-suc a b) ∙ ap (op (u (a + b))) (fold_add a b u)
       ∙ sym (g.assoc (u (a + b)) (fold e op b (λ j. u (a + j))) (fold e op a u))
 
   -- one value alone

@@ -1,5 +1,5 @@
 -- How rings and supports stay sound: before the first ring, with another number of nodes, with one more ring. Assumes nothing.
-use Rattle.std.proofs.Common.{◌≡◌, ℕ, zero, suc, ◌+◌, ◌%◌, ◌<◌, ◌≤◌, Bool, true, false, cond, ◌&&◌, eqb, ltb, length, sym, refl, ap, ◌∙◌, subst, ap₂, inl, inr, arith, ltb_true, le_ltb, lt_ltb, eq_eqb, eqb_true}
+use Rattle.std.proofs.Common.{◌≡◌, ℕ, zero, suc, ◌+◌, ◌%◌, ◌<◌, ◌≤◌, Bool, true, false, cond, ◌&&◌, eqb, ltb, length, sym, refl, ap, ◌∙◌, subst, ap₂, inl, inr, arith, ltb-true, le-ltb, lt-ltb, eq-eqb, eqb-true}
 use mathlib.Core.Path.{fun_ext}
 use native.Mathlib.Decide.{dec_lt}
 use Rattle.cycle_space.specs.Sums.{count}
@@ -26,7 +26,7 @@ pub alone_bit : (N : Shape) → N.pipes ≤ 256 → (i j : ℕ) → bit (alone N
 unfolding alone
 alone_bit N few i j = elim (dec_lt j 256) [
   | yes l ↦ row_bit (λ j. ltb j N.pipes && (closes N j && eqb (before N j) i)) j l
-  | no l ↦ bit_past (alone N i) (alone_words N i).four j (omega arith) ∙ sym (ap (λ b. b && (closes N j && eqb (before N j) i)) (le_ltb j N.pipes (omega arith)))
+  | no l ↦ bit_past (alone N i) (alone_words N i).four j (omega arith) ∙ sym (ap (λ b. b && (closes N j && eqb (before N j) i)) (le-ltb j N.pipes (omega arith)))
 ]
 
 -- what is in such a row
@@ -34,13 +34,13 @@ alone_in : (N : Shape) → N.pipes ≤ 256 → (i j : ℕ) → bit (alone N i) j
 alone_in N few i j h =
     let t = sym (alone_bit N few i j) ∙ h in
     let c = and_right (ltb j N.pipes) (closes N j && eqb (before N j) i) t in (
-      ltb_true j N.pipes (and_left (ltb j N.pipes) (closes N j && eqb (before N j) i) t),
+      ltb-true j N.pipes (and_left (ltb j N.pipes) (closes N j && eqb (before N j) i) t),
       and_left (closes N j) (eqb (before N j) i) c,
-      eqb_true (before N j) i (and_right (closes N j) (eqb (before N j) i) c),
+      eqb-true (before N j) i (and_right (closes N j) (eqb (before N j) i) c),
     )
 
 in_alone : (N : Shape) → N.pipes ≤ 256 → (i j : ℕ) → j < N.pipes → closes N j ≡ true → before N j ≡ i → bit (alone N i) j ≡ true
-in_alone N few i j l c e = alone_bit N few i j ∙ ap₂ ◌&&◌ (lt_ltb j N.pipes l) (ap₂ ◌&&◌ c (eq_eqb (before N j) i e))
+in_alone N few i j l c e = alone_bit N few i j ∙ ap₂ ◌&&◌ (lt-ltb j N.pipes l) (ap₂ ◌&&◌ c (eq-eqb (before N j) i e))
 
 pub alone_holds : AloneHolds
 alone_holds N few i j = (

@@ -1,5 +1,5 @@
 -- Labels: after the first k pipes two nodes have one label exactly where a run of those pipes joins them. Assumes nothing.
-use Rattle.std.proofs.Common.{◌≡◌, ℕ, zero, suc, ◌<◌, ◌≤◌, min, max, true, cond, ◌⊎◌, ◌↔◌, sym, refl, ap, ◌∙◌, subst, inl, inr, arith, eq_eqb, eqb_true}
+use Rattle.std.proofs.Common.{◌≡◌, ℕ, zero, suc, ◌<◌, ◌≤◌, min, max, true, cond, ◌⊎◌, ◌↔◌, sym, refl, ap, ◌∙◌, subst, inl, inr, arith, eq-eqb, eqb-true}
 use Rattle.cycle_space.specs.Shapes.{Shape, EndsAreNodes, Crosses, Run, stay, cross, Closing}
 use Rattle.cycle_space.specs.Labels.{relabel, label, closes, LabelsTellParts}
 use Rattle.cycle_space.proofs.Booleans.{by_eqb, by_le}
@@ -37,7 +37,7 @@ lower : (N : Shape) (k v : ℕ)
     → Run N k v (label N k v) → Run N k (N.first k) (label N k (N.first k)) → Run N k (N.second k) (label N k (N.second k))
     → label N k v ≡ max (label N k (N.first k)) (label N k (N.second k))
     → Run N (suc k) v (min (label N k (N.first k)) (label N k (N.second k)))
-lower N k v to_v to_p to_q e = go (by_le p q)
+lower N k v to-v to-p to-q e = go (by_le p q)
   where
     a : ℕ
     a = N.first k
@@ -65,11 +65,11 @@ lower N k v to_v to_p to_q e = go (by_le p q)
     go (inl h) =
         let lv : label N k v ≡ label N k (N.second k) = omega arith in
         let low : label N k (N.first k) ≡ min (label N k (N.first k)) (label N k (N.second k)) = omega arith in
-        subst (Run N (suc k) v) low (over b a q p (subst (Run N k v) lv to_v) to_q (inr (refl, refl)) to_p)
+        subst (Run N (suc k) v) low (over b a q p (subst (Run N k v) lv to-v) to-q (inr (refl, refl)) to-p)
     go (inr h) =
         let lv : label N k v ≡ label N k (N.first k) = omega arith in
         let low : label N k (N.second k) ≡ min (label N k (N.first k)) (label N k (N.second k)) = omega arith in
-        subst (Run N (suc k) v) low (over a b p q (subst (Run N k v) lv to_v) to_p (inl (refl, refl)) to_q)
+        subst (Run N (suc k) v) low (over a b p q (subst (Run N k v) lv to-v) to-p (inl (refl, refl)) to-q)
 
 pub to_label : (N : Shape) (k v : ℕ) → Run N k v (label N k v)
 to_label N zero v = stay refl
@@ -111,6 +111,6 @@ labels_tell_parts N k = (λ u v. (same_label N k u v, label_run N k u v), label_
 
 pub closing_decided : (N : Shape) (j : ℕ) → (closes N j ≡ true) ↔ Closing N j
 closing_decided N j = (
-  λ e. same_label N j (N.first j) (N.second j) (eqb_true (label N j (N.first j)) (label N j (N.second j)) e),
-  λ c. eq_eqb (label N j (N.first j)) (label N j (N.second j)) (label_run N j (N.first j) (N.second j) c),
+  λ e. same_label N j (N.first j) (N.second j) (eqb-true (label N j (N.first j)) (label N j (N.second j)) e),
+  λ c. eq-eqb (label N j (N.first j)) (label N j (N.second j)) (label_run N j (N.first j) (N.second j) c),
 )

@@ -1,7 +1,7 @@
 -- Rings and rivals as lists of rows: full lists are bases, the exchange, the joined weight, the counts. Assumes nothing.
 use Rattle.std.proofs.Common.{◌≡◌, ℕ, zero, suc, ◌+◌, ◌<◌, Bool, true, cond, List, [], ◌∷◌, map, length, get_or, sym, refl, ap, ◌∙◌, subst, ap₂, inl, inr, arith}
 use mathlib.Core.Path.{fun_ext}
-use Rattle.std.proofs.lemmas.List.{length_set, get_or_set_same, get_or_set_other}
+use Rattle.std.proofs.lemmas.List.{length-set, get_or-set_same, get_or-set_other}
 use Rattle.cycle_space.specs.Sums.{fold, count}
 use Rattle.cycle_space.specs.Rows.{Row, bit, row_of, empty, odd}
 use Rattle.cycle_space.specs.Shapes.{Shape}
@@ -23,7 +23,7 @@ use Rattle.cycle_space.proofs.Supports.{sound_rings, not_yet, full}
 exchanged_length : (rival : List Row) (ps : List ℕ) (cs : List Row) → length (exchanged rival ps cs) ≡ length rival
 exchanged_length rival [] cs = refl
 exchanged_length rival (p ∷ ps) [] = refl
-exchanged_length rival (p ∷ ps) (c ∷ cs) = length_set (exchanged rival ps cs) p c ∙ exchanged_length rival ps cs
+exchanged_length rival (p ∷ ps) (c ∷ cs) = length-set (exchanged rival ps cs) p c ∙ exchanged_length rival ps cs
 
 -- each ring stands at its place
 exchanged_at : (rival : List Row) (ps : List ℕ) (cs : List Row) → length ps ≡ length cs → ((i : ℕ) → i < length ps → get_or ps i 0 < length rival)
@@ -32,9 +32,9 @@ exchanged_at : (rival : List Row) (ps : List ℕ) (cs : List Row) → length ps 
 exchanged_at rival [] cs l m d i h = absurd (omega arith)
 exchanged_at rival (p ∷ ps) [] l m d i h = absurd (omega arith)
 exchanged_at rival (p ∷ ps) (c ∷ cs) l m d zero h =
-    get_or_set_same (exchanged rival ps cs) p c empty (let e = exchanged_length rival ps cs in let b = m 0 h in omega arith)
+    get_or-set_same (exchanged rival ps cs) p c empty (let e = exchanged_length rival ps cs in let b = m 0 h in omega arith)
 exchanged_at rival (p ∷ ps) (c ∷ cs) l m d (suc i) h =
-    get_or_set_other (exchanged rival ps cs) p (get_or ps i 0) c empty (λ q. let z = d (suc i) 0 h (omega arith) q in omega arith)
+    get_or-set_other (exchanged rival ps cs) p (get_or ps i 0) c empty (λ q. let z = d (suc i) 0 h (omega arith) q in omega arith)
     ∙ exchanged_at rival ps cs (omega arith) (λ i k. m (suc i) (omega arith)) (λ i j hi hj q. let z = d (suc i) (suc j) (omega arith) (omega arith) q in omega arith) i (omega arith)
 
 -- and at every other place what stood there
@@ -43,7 +43,7 @@ exchanged_other : (rival : List Row) (ps : List ℕ) (cs : List Row) (j : ℕ) �
 exchanged_other rival [] cs j h = refl
 exchanged_other rival (p ∷ ps) [] j h = refl
 exchanged_other rival (p ∷ ps) (c ∷ cs) j h =
-    get_or_set_other (exchanged rival ps cs) p j c empty (λ q. h 0 (omega arith) (sym q)) ∙ exchanged_other rival ps cs j (λ i l. h (suc i) (omega arith))
+    get_or-set_other (exchanged rival ps cs) p j c empty (λ q. h 0 (omega arith) (sym q)) ∙ exchanged_other rival ps cs j (λ i l. h (suc i) (omega arith))
 
 -- Full lists
 

@@ -1,6 +1,6 @@
 -- Nets at a moment, as they are changed. Assumes nothing.
 use Rattle.std.proofs.Common.{◌≡◌, ℕ, zero, suc, ◌+◌, ◌-◌, List, [], ◌∷◌, ◌++◌, map, length, take, set, refl, ap, ◌∙◌, ap₂, arith}
-use Rattle.std.proofs.lemmas.List.{length_append}
+use Rattle.std.proofs.lemmas.List.{length-append}
 use Rattle.cycle_space.specs.Moments.{Pipe, drawn, reweighed, MomentLaws}
 
 module _ {M : Type 0} where
@@ -24,7 +24,7 @@ pub moment_laws : {M : Type 0} → MomentLaws M
 moment_laws = record {
   lift_undoes_lay = λ n a b w.
       let p : Pipe _ = record { first = a; second = b; weight = w } in
-      let size : length (n.pipes ++ (p ∷ [])) - 1 ≡ length n.pipes = (let l = length_append n.pipes (p ∷ []) in omega arith) in
+      let size : length (n.pipes ++ (p ∷ [])) - 1 ≡ length n.pipes = (let l = length-append n.pipes (p ∷ []) in omega arith) in
       ap (λ ps. record { nodes = n.nodes; pipes = ps }) (ap (λ k. take k (n.pipes ++ (p ∷ []))) size ∙ take_front n.pipes (p ∷ []));
   reweigh_keeps_ends = λ n j w.
       ap₂ (λ (xs ys : List ℕ). drawn n.nodes xs ys) (ends_stay (λ p. p.first) (λ p v. refl) n.pipes (j - 1) w) (ends_stay (λ p. p.second) (λ p v. refl) n.pipes (j - 1) w);

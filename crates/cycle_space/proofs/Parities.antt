@@ -1,7 +1,7 @@
 -- The parity of two rows: the sum over GF(2) of the products of their bits, by words, and its laws. Assumes nothing.
-use Rattle.std.proofs.Common.{◌≡◌, ℕ, zero, suc, ◌+◌, ◌*◌, ◌/◌, ◌%◌, ◌^◌, ◌<◌, Bool, true, false, cond, not, ◌&&◌, eqb, get_or, sym, refl, ap, ◌∙◌, ap₂, pow_suc, arith}
+use Rattle.std.proofs.Common.{◌≡◌, ℕ, zero, suc, ◌+◌, ◌*◌, ◌/◌, ◌%◌, ◌^◌, ◌<◌, Bool, true, false, cond, not, ◌&&◌, eqb, get_or, sym, refl, ap, ◌∙◌, ap₂, pow-suc, arith}
 use lib.Bits.{bit_and, bit_xor}
-use lib.Count.{ones, ones_step, ones_le}
+use lib.Count.{ones, ones_step, ones-le}
 use Rattle.cycle_space.specs.Sums.{fold}
 use Rattle.cycle_space.specs.Rows.{Row, bit, empty, add2, sum, common, odd, ParityLaws}
 use Rattle.cycle_space.proofs.Booleans.{by_eqb, and_comm, add2_and}
@@ -45,11 +45,11 @@ parity_laws = record {
 -- the parity of the number of ones in a word of k bits
 word_parity : (k n : ℕ) → n < 2 ^ k → fold false add2 k (bit_at n) ≡ eqb (ones n % 2) 1
 unfolding fold
-word_parity zero n h = by_eqb (λ b. false ≡ b) (ones n % 2) 1 (λ q. absurd (omega (arith, ones_le 0 n h))) (λ _. refl)
+word_parity zero n h = by_eqb (λ b. false ≡ b) (ones n % 2) 1 (λ q. absurd (omega (arith, ones-le 0 n h))) (λ _. refl)
 word_parity (suc k) n h =
     fold_front bits k (bit_at n)
     ∙ ap₂ add2 (bit_low n)
-    (fold_same bits k (λ i. bit_at n (suc i)) (bit_at (n / 2)) (λ i _. bit_suc n i) ∙ word_parity k (n / 2) (omega (arith, pow_suc 2 k)))
+    (fold_same bits k (λ i. bit_at n (suc i)) (bit_at (n / 2)) (λ i _. bit_suc n i) ∙ word_parity k (n / 2) (omega (arith, pow-suc 2 k)))
     ∙ both
   where
     both : add2 (eqb (n % 2) 1) (eqb (ones (n / 2) % 2) 1) ≡ eqb (ones n % 2) 1

@@ -1,5 +1,5 @@
 -- The parts of a shape: one for each node that is its own label, and there is no other number of them. Assumes nothing.
-use Rattle.std.proofs.Common.{◌≡◌, ℕ, zero, suc, ◌+◌, ◌<◌, ◌≤◌, Bool, true, false, cond, eqb, List, [], ◌∷◌, length, get_or, sym, refl, ap, ◌∙◌, subst, arith, eq_eqb, eqb_true}
+use Rattle.std.proofs.Common.{◌≡◌, ℕ, zero, suc, ◌+◌, ◌<◌, ◌≤◌, Bool, true, false, cond, eqb, List, [], ◌∷◌, length, get_or, sym, refl, ap, ◌∙◌, subst, arith, eq-eqb, eqb-true}
 use borrow.Author.Tests.{both_ways}
 use Rattle.cycle_space.specs.Shapes.{Shape, Node, EndsAreNodes, OnePart, Parts, PartsAreCounted}
 use Rattle.cycle_space.specs.Labels.{label}
@@ -96,14 +96,14 @@ module _ (N : Shape) (g : EndsAreNodes N) where
       self : (i : ℕ) → i < count N.nodes own → top (get_or (collect N.nodes own) i 0) ≡ get_or (collect N.nodes own) i 0
       self i l =
           let r = collect_in N.nodes own i (in_list i l) in
-          ap top r.2 ∙ eqb_true (top (suc r.0)) (suc r.0) r.3 ∙ sym r.2
+          ap top r.2 ∙ eqb-true (top (suc r.0)) (suc r.0) r.3 ∙ sym r.2
 
       each : (v : ℕ) → Node N v → (t : ℕ) → top v ≡ t → (i : ℕ) × (i < count N.nodes own) × OnePart N v (get_or (collect N.nodes own) i 0)
       each v h zero e = absurd (let p = label_pos N g N.pipes (omega arith) v h.0 in omega arith)
       each v h (suc t) e =
           let le = label_le N N.pipes v in
           let hi = h.1 in
-          let r = collect_all N.nodes own t (omega arith) (eq_eqb (top (suc t)) (suc t) (ap top (sym e) ∙ label_label N N.pipes v ∙ e)) in
+          let r = collect_all N.nodes own t (omega arith) (eq-eqb (top (suc t)) (suc t) (ap top (sym e) ∙ label_label N N.pipes v ∙ e)) in
           (r.0, (let z = collect_length N.nodes own in omega (arith, r.1)), subst (OnePart N v) (e ∙ sym r.2) (to_label N N.pipes v))
 
 parts_le : (N : Shape) (k l : ℕ) → Parts N k → Parts N l → k ≤ l

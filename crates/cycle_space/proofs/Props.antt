@@ -1,7 +1,7 @@
 -- What is kept of rings and supports is a proposition, and holds of any rings and supports that are equal. Assumes nothing.
 use Rattle.std.proofs.Common.{◌≡◌, ℕ, ◌<◌, sym, ap, ◌∙◌, subst}
 use mathlib.Core.Path.{fun_ext}
-use mathlib.Core.Bool.{BoolSet}
+use mathlib.Core.Bool.{Bool-set}
 use mathlib.Core.HLevel.{Π_prop, ×_prop}
 use native.Mathlib.Nat.{ℕ_set}
 use native.Mathlib.Bridge.{le_prop}
@@ -19,7 +19,7 @@ words_prop x y i = record {
 of_pipes_prop : {m : ℕ} {r : Row} → IsProp (OfPipes m r)
 of_pipes_prop x y i = record {
   words = words_prop x.words y.words i;
-  others = Π_prop (λ j. Π_prop (λ l. BoolSet _ _)) x.others y.others i;
+  others = Π_prop (λ j. Π_prop (λ l. Bool-set _ _)) x.others y.others i;
 }
 
 closed_prop : {N : Shape} {r : Row} → IsProp (Closed N r)
@@ -33,11 +33,11 @@ sound_prop x y i = record {
   few_pipes = le_prop x.few_pipes y.few_pipes i;
   not_over = le_prop x.not_over y.not_over i;
   of_pipes = Π_prop (λ a. Π_prop (λ l. of_pipes_prop)) x.of_pipes y.of_pipes i;
-  own = Π_prop (λ j. Π_prop (λ l. Π_prop (λ c. BoolSet _ _))) x.own y.own i;
-  lower = Π_prop (λ a. Π_prop (λ j. Π_prop (λ l. Π_prop (λ h. ×_prop (BoolSet _ _) le_prop)))) x.lower y.lower i;
+  own = Π_prop (λ j. Π_prop (λ l. Π_prop (λ c. Bool-set _ _))) x.own y.own i;
+  lower = Π_prop (λ a. Π_prop (λ j. Π_prop (λ l. Π_prop (λ h. ×_prop (Bool-set _ _) le_prop)))) x.lower y.lower i;
   closed = Π_prop (λ a. Π_prop (λ l. closed_prop)) x.closed y.closed i;
-  own_odd = Π_prop (λ a. Π_prop (λ l. BoolSet _ _)) x.own_odd y.own_odd i;
-  later_even = Π_prop (λ a. Π_prop (λ j. Π_prop (λ l. Π_prop (λ m. Π_prop (λ r. BoolSet _ _))))) x.later_even y.later_even i;
+  own_odd = Π_prop (λ a. Π_prop (λ l. Bool-set _ _)) x.own_odd y.own_odd i;
+  later_even = Π_prop (λ a. Π_prop (λ j. Π_prop (λ l. Π_prop (λ m. Π_prop (λ r. Bool-set _ _))))) x.later_even y.later_even i;
 }
 
 pub as_rings : {N : Shape} {k : ℕ} {ring ring' support : ℕ → Row} → ((i : ℕ) → i < k → ring i ≡ ring' i) → Sound N k ring support → Sound N k ring' support

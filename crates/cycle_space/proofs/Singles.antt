@@ -1,8 +1,8 @@
 -- The row of one pipe. Assumes nothing.
-use Rattle.std.proofs.Common.{◌≡◌, ℕ, zero, suc, ◌+◌, ◌-◌, ◌*◌, ◌/◌, ◌%◌, ◌^◌, ◌<◌, ◌≤◌, Bool, eqb, ◌⊎◌, get_or, set, sym, refl, ap, ◌∙◌, subst, ⊎_elim, one_mul, arith, pow_add, shr_lt, ne_eqb}
+use Rattle.std.proofs.Common.{◌≡◌, ℕ, zero, suc, ◌+◌, ◌-◌, ◌*◌, ◌/◌, ◌%◌, ◌^◌, ◌<◌, ◌≤◌, Bool, eqb, ◌⊎◌, get_or, set, sym, refl, ap, ◌∙◌, subst, ⊎_elim, one-mul, arith, pow-add, shr_lt, ne_eqb}
 use native.Mathlib.Decide.{ℕ_discrete, dec_lt}
-use lib.Pow.{shl_shr, pow_lt}
-use Rattle.std.proofs.lemmas.List.{length_set, get_or_set_same, get_or_set_other}
+use lib.Pow.{shl-shr, pow-lt}
+use Rattle.std.proofs.lemmas.List.{length-set, get_or-set_same, get_or-set_other}
 use Rattle.std.proofs.lemmas.Bool.{cases_order}
 use Rattle.cycle_space.specs.Rows.{Row, bit, holds, row_of, FourWords, empty}
 use Rattle.cycle_space.proofs.Booleans.{by_eqb, eqb_same}
@@ -10,12 +10,12 @@ use Rattle.cycle_space.proofs.Bits.{bit_at, bit_past, empty_bit, empty_row, row_
 
 -- the bits of a power of two
 power_same : (a : ℕ) → 2 ^ a / 2 ^ a ≡ 1
-power_same a = let h : 1 * 2 ^ a / 2 ^ a ≡ 1 = shl_shr 1 a in rw one_mul at h
+power_same a = let h : 1 * 2 ^ a / 2 ^ a ≡ 1 = shl-shr 1 a in rw one-mul at h
 
 power_below : (a b : ℕ) → a < b → 2 ^ a / 2 ^ b ≡ 0
 power_below a b h =
     let e : 0 + b ≡ b = omega arith in
-    let k : 2 ^ a < 2 ^ (0 + b) = rw e (pow_lt h) in
+    let k : 2 ^ a < 2 ^ (0 + b) = rw e (pow-lt h) in
     let r : 2 ^ a / 2 ^ b < 2 ^ 0 = shr_lt 0 b k in
     omega arith
 
@@ -23,9 +23,9 @@ power_above : (a b : ℕ) → b < a → 2 ^ a / 2 ^ b % 2 ≡ 0
 power_above a b h =
     let c : ℕ = a - b - 1 in
     let e : c + 1 + b ≡ a = omega arith in
-    let p : 2 ^ (c + 1 + b) ≡ 2 ^ (c + 1) * 2 ^ b = pow_add 2 (c + 1) b in
-    let q : 2 ^ (c + 1) ≡ 2 ^ c * 2 ^ 1 = pow_add 2 c 1 in
-    let s : 2 ^ (c + 1) * 2 ^ b / 2 ^ b ≡ 2 ^ (c + 1) = shl_shr (2 ^ (c + 1)) b in
+    let p : 2 ^ (c + 1 + b) ≡ 2 ^ (c + 1) * 2 ^ b = pow-add 2 (c + 1) b in
+    let q : 2 ^ (c + 1) ≡ 2 ^ c * 2 ^ 1 = pow-add 2 c 1 in
+    let s : 2 ^ (c + 1) * 2 ^ b / 2 ^ b ≡ 2 ^ (c + 1) = shl-shr (2 ^ (c + 1)) b in
     let r : 2 ^ a / 2 ^ b ≡ 2 ^ c * 2 = ap (λ n. 2 ^ n / 2 ^ b) (sym e) ∙ ap (λ n. n / 2 ^ b) p ∙ s ∙ q in
     omega arith
 
@@ -39,7 +39,7 @@ power_bit a b =
     zero_there ne = ⊎_elim (λ e. absurd (ne (sym e))) (⊎_elim (λ h. let z = power_below a b h in omega arith) (λ h. power_above a b h)) (cases_order a b)
 
 word_power : (a : ℕ) → a < 64 → 2 ^ a < 2 ^ 64
-word_power a l = pow_lt l
+word_power a l = pow-lt l
 
 -- a word with one bit, as it is shifted
 pub shifted_one : (a : ℕ) → a < 64 → 1 * 2 ^ a % 2 ^ 64 ≡ 2 ^ a
@@ -62,11 +62,11 @@ marked p = set empty (p / 64) (2 ^ (p % 64))
 module _ (p : ℕ) (l : p < 256) where
   marked_words : FourWords (marked p)
   marked_words = record {
-    four = length_set empty (p / 64) (2 ^ (p % 64));
+    four = length-set empty (p / 64) (2 ^ (p % 64));
     words = λ k. elim (ℕ_discrete k (p / 64)) [
       | yes q ↦ subst (λ n. get_or (marked p) n 0 < 2 ^ 64) (sym q)
-          (subst (λ n. n < 2 ^ 64) (sym (get_or_set_same empty (p / 64) (2 ^ (p % 64)) 0 (omega arith))) (word_power (p % 64) (omega arith)))
-      | no q ↦ subst (λ n. n < 2 ^ 64) (sym (get_or_set_other empty (p / 64) k (2 ^ (p % 64)) 0 q)) (empty_row.words k)
+          (subst (λ n. n < 2 ^ 64) (sym (get_or-set_same empty (p / 64) (2 ^ (p % 64)) 0 (omega arith))) (word_power (p % 64) (omega arith)))
+      | no q ↦ subst (λ n. n < 2 ^ 64) (sym (get_or-set_other empty (p / 64) k (2 ^ (p % 64)) 0 q)) (empty_row.words k)
     ];
   }
 
@@ -74,10 +74,10 @@ module _ (p : ℕ) (l : p < 256) where
   unfolding bit
   marked_bit j = elim (ℕ_discrete (j / 64) (p / 64)) [
     | yes q ↦ ap (λ n. bit_at (get_or (marked p) n 0) (j % 64)) q
-        ∙ ap (λ n. bit_at n (j % 64)) (get_or_set_same empty (p / 64) (2 ^ (p % 64)) 0 (omega arith))
+        ∙ ap (λ n. bit_at n (j % 64)) (get_or-set_same empty (p / 64) (2 ^ (p % 64)) 0 (omega arith))
         ∙ power_bit (p % 64) (j % 64)
         ∙ by_eqb (λ t. eqb (j % 64) (p % 64) ≡ t) j p (λ e. ap (λ n. eqb (n % 64) (p % 64)) e ∙ eqb_same (p % 64)) (λ ne. ne_eqb (j % 64) (p % 64) (λ e. ne (omega arith)))
-    | no q ↦ ap (λ n. bit_at n (j % 64)) (get_or_set_other empty (p / 64) (j / 64) (2 ^ (p % 64)) 0 q) ∙ empty_bit j
+    | no q ↦ ap (λ n. bit_at n (j % 64)) (get_or-set_other empty (p / 64) (j / 64) (2 ^ (p % 64)) 0 q) ∙ empty_bit j
         ∙ sym (ne_eqb j p (λ e. q (ap (λ n. n / 64) e)))
   ]
 

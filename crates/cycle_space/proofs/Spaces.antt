@@ -1,5 +1,5 @@
 -- The space of the closed sets of a shape, as functions, and the rows that stand for them. Assumes nothing.
-use Rattle.std.proofs.Common.{◌≡◌, ℕ, zero, suc, ◌%◌, ◌<◌, ◌≤◌, Bool, true, false, cond, ◌&&◌, eqb, List, [], ◌∷◌, length, get_or, sym, refl, ap, ◌∙◌, ap₂, arith, eqb_true}
+use Rattle.std.proofs.Common.{◌≡◌, ℕ, zero, suc, ◌%◌, ◌<◌, ◌≤◌, Bool, true, false, cond, ◌&&◌, eqb, List, [], ◌∷◌, length, get_or, sym, refl, ap, ◌∙◌, ap₂, arith, eqb-true}
 use mathlib.Core.Path.{fun_ext}
 use native.Mathlib.Decide.{dec_lt}
 use borrow.Author.Tests.{both_ways}
@@ -78,7 +78,7 @@ space N = record {
 pub of_row : (N : Shape) (r : Row) → Closed N r → Cycle N (bit r)
 of_row N r c = record {
   closed = λ v. sym (touching_parity N r v N.pipes) ∙ not_so (eqb (touching N r v N.pipes % 2) 1) (λ e.
-      let p = eqb_true (touching N r v N.pipes % 2) 1 e in let q = c.even v in omega arith);
+      let p = eqb-true (touching N r v N.pipes % 2) 1 e in let q = c.even v in omega arith);
   bounded = λ j l. c.of_pipes.others (suc j) (omega arith);
 }
 

@@ -1,5 +1,5 @@
 -- Sets of pipes with their boundaries, runs as lists of pipes, trails in a set, and rings that are odd against a set. Assumes nothing.
-use Rattle.std.proofs.Common.{◌≡◌, ℕ, zero, suc, ◌+◌, ◌%◌, ◌<◌, ◌≤◌, Bool, true, false, cond, not, ◌&&◌, ◌||◌, eqb, List, [], ◌∷◌, sym, refl, ap, ◌∙◌, subst, ap₂, inl, inr, arith, ne_eqb, eqb_true}
+use Rattle.std.proofs.Common.{◌≡◌, ℕ, zero, suc, ◌+◌, ◌%◌, ◌<◌, ◌≤◌, Bool, true, false, cond, not, ◌&&◌, ◌||◌, eqb, List, [], ◌∷◌, sym, refl, ap, ◌∙◌, subst, ap₂, inl, inr, arith, ne_eqb, eqb-true}
 use borrow.Author.Tests.{both_ways}
 use Rattle.cycle_space.specs.Sums.{fold, count}
 use Rattle.cycle_space.specs.Rows.{Row, bit, add2}
@@ -103,7 +103,7 @@ crossing : (N : Shape) (j s : ℕ) → ends (N.first j) (N.second j) s ≡ true 
 crossing N j s h =
     by_eqb (λ c. add2 c (eqb (N.second j) s) ≡ true → (u : ℕ) × Crosses N j s u) (N.first j) s
     (λ q _. (N.second j, inl (q, refl)))
-    (λ _ k. (N.first j, inr (eqb_true (N.second j) s k, refl))) h
+    (λ _ k. (N.first j, inr (eqb-true (N.second j) s k, refl))) h
 
 -- Trails
 

@@ -1,7 +1,7 @@
 -- How the supports begin: the closing pipes, each alone, found pipe by pipe. Assumes nothing.
 use Rattle.std.proofs.Common.{◌≡◌, ℕ, suc, ◌+◌, ◌<◌, ◌≤◌, true, false, cond, eqb, List, length, set, replicate, sym, refl, ap, ◌∙◌, subst, arith}
 use native.Mathlib.Decide.{ℕ_discrete, dec_lt}
-use Rattle.std.proofs.lemmas.List.{length_set, length_replicate, get_or_replicate, get_or_past, get_or_set_same, get_or_set_other}
+use Rattle.std.proofs.lemmas.List.{length-set, length-replicate, get_or-replicate, get_or_past, get_or-set_same, get_or-set_other}
 use Rattle.cycle_space.specs.Sums.{fold}
 use Rattle.cycle_space.specs.Rows.{Row, empty, row_of}
 use Rattle.cycle_space.specs.Shapes.{Shape}
@@ -32,11 +32,11 @@ unfolding fold
 begun_none N labels rows e told = record {
   told = told;
   number = refl;
-  long = ap length e ∙ length_replicate 256 no_pipes;
+  long = ap length e ∙ length-replicate 256 no_pipes;
   done = λ i l. absurd (omega arith);
   left = λ i l. ap (λ xs. row_at xs i) e ∙ elim (dec_lt i 256) [
-    | yes h ↦ ap (λ r. r.words) (get_or_replicate 256 i no_pipes no_pipes h)
-    | no h ↦ ap (λ r. r.words) (get_or_past (replicate 256 no_pipes) i no_pipes (let m = length_replicate 256 no_pipes in omega arith))
+    | yes h ↦ ap (λ r. r.words) (get_or-replicate 256 i no_pipes no_pipes h)
+    | no h ↦ ap (λ r. r.words) (get_or_past (replicate 256 no_pipes) i no_pipes (let m = length-replicate 256 no_pipes in omega arith))
   ];
 }
 
@@ -59,13 +59,13 @@ module _ (N : Shape) (few : N.pipes ≤ 256) (j : ℕ) (lj : j < N.pipes) (label
       record {
         told = told';
         number = omega arith;
-        long = length_set rows closing (record { words = row }) ∙ b.long;
+        long = length-set rows closing (record { words = row }) ∙ b.long;
         done = λ i l. elim (ℕ_discrete i closing) [
           | yes q ↦ subst (λ k. row_at (set rows closing (record { words = row })) k ≡ alone N k) (sym q)
-              (ap (λ r. r.words) (get_or_set_same rows closing (record { words = row }) no_pipes (omega arith)) ∙ same ∙ ap (alone N) (sym is))
-          | no q ↦ ap (λ r. r.words) (get_or_set_other rows closing i (record { words = row }) no_pipes q) ∙ b.done i (omega arith)
+              (ap (λ r. r.words) (get_or-set_same rows closing (record { words = row }) no_pipes (omega arith)) ∙ same ∙ ap (alone N) (sym is))
+          | no q ↦ ap (λ r. r.words) (get_or-set_other rows closing i (record { words = row }) no_pipes q) ∙ b.done i (omega arith)
         ];
-        left = λ i l. ap (λ r. r.words) (get_or_set_other rows closing i (record { words = row }) no_pipes (λ q. omega arith)) ∙ b.left i (omega arith);
+        left = λ i l. ap (λ r. r.words) (get_or-set_other rows closing i (record { words = row }) no_pipes (λ q. omega arith)) ∙ b.left i (omega arith);
       }
 
   -- the pipe at j is not closing

@@ -1,7 +1,7 @@
 -- How the tables of a net stay as they must be. Assumes nothing.
-use Rattle.std.proofs.Common.{◌≡◌, ℕ, suc, ◌+◌, ◌-◌, ◌<◌, ◌≤◌, true, cond, eqb, List, length, get_or, take, set, sym, refl, ap, ◌∙◌, subst, arith, eq_eqb, ne_eqb}
+use Rattle.std.proofs.Common.{◌≡◌, ℕ, suc, ◌+◌, ◌-◌, ◌<◌, ◌≤◌, true, cond, eqb, List, length, get_or, take, set, sym, refl, ap, ◌∙◌, subst, arith, eq-eqb, ne_eqb}
 use native.Mathlib.Decide.{ℕ_discrete}
-use Rattle.std.proofs.lemmas.List.{length_map, length_take_le, length_set, get_or_set_same, get_or_set_other}
+use Rattle.std.proofs.lemmas.List.{length-map, length-take-le, length-set, get_or-set_same, get_or-set_other}
 use Rattle.cycle_space.specs.declared.ends.Ends.{Ends}
 use Rattle.cycle_space.specs.Rows.{Row, odd}
 use Rattle.cycle_space.specs.Labels.{closes}
@@ -16,14 +16,14 @@ use Rattle.cycle_space.proofs.Counting.{count_le}
 
 -- before the first ring the supports are the closing pipes, and then they stand in their table
 pub supports_before : (t : Tables) (i : ℕ) → t.found ≡ 0 → supports_of t i ≡ alone (laid_out t) i
-supports_before t i e = ap (λ b. cond b (alone (laid_out t) i) (row_at t.supports i)) (eq_eqb t.found 0 e)
+supports_before t i e = ap (λ b. cond b (alone (laid_out t) i) (row_at t.supports i)) (eq-eqb t.found 0 e)
 
 pub supports_stored : (t : Tables) (i : ℕ) → (t.found ≡ 0 → ⊥) → supports_of t i ≡ row_at t.supports i
 supports_stored t i e = ap (λ b. cond b (alone (laid_out t) i) (row_at t.supports i)) (ne_eqb t.found 0 e)
 
 -- so many pipes are laid out
 pub laid_pipes : (t : Tables) → t.pipes ≤ length t.ends → (laid_out t).pipes ≡ t.pipes
-laid_pipes t l = length_map (take t.pipes t.ends) (λ e. e.first) ∙ length_take_le t.pipes t.ends l
+laid_pipes t l = length-map (take t.pipes t.ends) (λ e. e.first) ∙ length-take-le t.pipes t.ends l
 
 -- without rings
 sound_begun : (t : Tables) → length t.ends ≡ 256 → t.pipes ≤ 256 → t.found ≡ 0 → Sound (laid_out t) t.found (row_at t.rows) (supports_of t)
@@ -68,15 +68,15 @@ nodes_added t k nodes up few = record {
 pub pipe_laid : (t : Tables) → Keeps t → (e : Ends) → Joins t.nodes e → (pipes found : ℕ) → pipes ≤ t.pipes + 1 → found ≡ 0 → t.pipes < 256
     → Keeps (record { nodes = t.nodes; pipes = pipes; found = found; ends = set t.ends t.pipes e; rows = t.rows; supports = t.supports })
 pipe_laid t k e h pipes found up none l =
-    let long : length (set t.ends t.pipes e) ≡ 256 = length_set t.ends t.pipes e ∙ k.places.0 in
+    let long : length (set t.ends t.pipes e) ≡ 256 = length-set t.ends t.pipes e ∙ k.places.0 in
     record {
       places = (long, k.places.1, k.places.2);
       few_nodes = k.few_nodes;
       few_pipes = omega arith;
       few_rings = omega arith;
       joined = λ j m. elim (ℕ_discrete j t.pipes) [
-        | yes q ↦ subst (Joins t.nodes) (sym (subst (λ i. get_or (set t.ends t.pipes e) i nowhere ≡ e) (sym q) (get_or_set_same t.ends t.pipes e nowhere (let p = k.places.0 in omega arith)))) h
-        | no q ↦ subst (Joins t.nodes) (sym (get_or_set_other t.ends t.pipes j e nowhere q)) (k.joined j (omega arith))
+        | yes q ↦ subst (Joins t.nodes) (sym (subst (λ i. get_or (set t.ends t.pipes e) i nowhere ≡ e) (sym q) (get_or-set_same t.ends t.pipes e nowhere (let p = k.places.0 in omega arith)))) h
+        | no q ↦ subst (Joins t.nodes) (sym (get_or-set_other t.ends t.pipes j e nowhere q)) (k.joined j (omega arith))
       ];
       sound = sound_begun (record { nodes = t.nodes; pipes = pipes; found = found; ends = set t.ends t.pipes e; rows = t.rows; supports = t.supports }) long (omega arith) none;
     }

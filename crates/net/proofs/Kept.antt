@@ -4,7 +4,7 @@ use mathlib.Core.HLevel.{Π_prop, ×_prop, ×₃_prop, ⊥_prop}
 use mathlib.Core.Logic.{∥∥₁_elim}
 use native.Mathlib.Nat.{ℕ_set}
 use native.Mathlib.Bridge.{le_prop}
-use Rattle.std.proofs.lemmas.List.{length_map, length_take_le, get_or_map, get_or_take}
+use Rattle.std.proofs.lemmas.List.{length-map, length-take-le, get_or-map, get_or-take}
 use Rattle.cycle_space.specs.Rows.{empty}
 use Rattle.cycle_space.specs.Shapes.{Shape, EndsAreNodes}
 use Rattle.cycle_space.specs.Labels.{closes}
@@ -63,10 +63,10 @@ module _ {M : Type 0} (n : Net M) where
       let k = kept n in
       let p = k.places.1 in
       let q = rings_few in
-      length_map (take n.tables.found n.tables.rows) (λ r. r.words) ∙ length_take_le n.tables.found n.tables.rows (omega arith)
+      length-map (take n.tables.found n.tables.rows) (λ r. r.words) ∙ length-take-le n.tables.found n.tables.rows (omega arith)
 
   pub shape_pipes : (shape (view n)).pipes ≡ n.tables.pipes
-  shape_pipes = length_map (view n).pipes (λ p. p.first) ∙ pipes_seen
+  shape_pipes = length-map (view n).pipes (λ p. p.first) ∙ pipes_seen
 
   equal : length (take n.tables.pipes n.tables.ends) ≡ length (take n.tables.pipes n.column.now)
   equal = as_many n.tables.nodes n.tables.pipes n.tables.ends n.column.now ends_for_all n.fits
@@ -74,8 +74,8 @@ module _ {M : Type 0} (n : Net M) where
   -- an end of a pipe that is seen stands in the table
   at_place : (f : Ends → ℕ) (j : ℕ) → j < n.tables.pipes → get_or (map f (take n.tables.pipes n.tables.ends)) j 0 ≡ f (get_or n.tables.ends j nowhere)
   at_place f j l =
-      let m = length_take_le n.tables.pipes n.tables.ends ends_for_all in
-      get_or_map f (take n.tables.pipes n.tables.ends) j nowhere 0 (omega arith) ∙ ap f (get_or_take n.tables.pipes n.tables.ends j nowhere l)
+      let m = length-take-le n.tables.pipes n.tables.ends ends_for_all in
+      get_or-map f (take n.tables.pipes n.tables.ends) j nowhere 0 (omega arith) ∙ ap f (get_or-take n.tables.pipes n.tables.ends j nowhere l)
 
   pub first_seen : (j : ℕ) → j < n.tables.pipes → (shape (view n)).first j ≡ (get_or n.tables.ends j nowhere).first
   first_seen j l = ap (λ xs. get_or xs j 0) (ends_seen (λ p. p.first) (λ e. e.first) (λ e w. refl) _ _ equal) ∙ at_place (λ e. e.first) j l
@@ -103,9 +103,9 @@ module _ {M : Type 0} (n : Net M) where
   ring_seen i l =
       let few = rings_few in
       let p = (kept n).places.1 in
-      let m = length_take_le n.tables.found n.tables.rows (omega arith) in
-      get_or_map (λ r. r.words) (take n.tables.found n.tables.rows) i no_pipes empty (omega arith)
-      ∙ ap (λ r. r.words) (get_or_take n.tables.found n.tables.rows i no_pipes l)
+      let m = length-take-le n.tables.found n.tables.rows (omega arith) in
+      get_or-map (λ r. r.words) (take n.tables.found n.tables.rows) i no_pipes empty (omega arith)
+      ∙ ap (λ r. r.words) (get_or-take n.tables.found n.tables.rows i no_pipes l)
 
   -- the ends of a pipe have places among the labels
   pub ends_small : (j : ℕ) → j < n.tables.pipes → ((get_or n.tables.ends j nowhere).first < 65) × ((get_or n.tables.ends j nowhere).second < 65)

@@ -1,5 +1,5 @@
 -- How the labels that the program keeps follow those of the shape. Assumes nothing.
-use Rattle.std.proofs.Common.{◌≡◌, ℕ, zero, suc, ◌+◌, ◌-◌, ◌<◌, ◌≤◌, Bool, true, false, cond, eqb, sym, refl, ap, ◌∙◌, ap₂, arith, eq_eqb, ne_eqb}
+use Rattle.std.proofs.Common.{◌≡◌, ℕ, zero, suc, ◌+◌, ◌-◌, ◌<◌, ◌≤◌, Bool, true, false, cond, eqb, sym, refl, ap, ◌∙◌, ap₂, arith, eq-eqb, ne_eqb}
 use Rattle.cycle_space.specs.Shapes.{Shape}
 use Rattle.cycle_space.specs.Labels.{label, relabel}
 use Rattle.cycle_space.specs.Sums.{fold, count}
@@ -11,7 +11,7 @@ abbrev pub lowered : ℕ → ℕ → ℕ → ℕ
 lowered high low l = cond (eqb l high) low l
 
 pub lowered_high : (high low l : ℕ) → l ≡ high → lowered high low l ≡ low
-lowered_high high low l e = ap (λ b. cond b low l) (eq_eqb l high e)
+lowered_high high low l e = ap (λ b. cond b low l) (eq-eqb l high e)
 
 pub lowered_other : (high low l : ℕ) → (l ≡ high → ⊥) → lowered high low l ≡ l
 lowered_other high low l e = ap (λ b. cond b low l) (ne_eqb l high e)
@@ -43,7 +43,7 @@ own_next l (suc n) h =
     ap (own_labels l) up ∙ ap (λ k. cond (eqb (labelled l (suc n)) (suc n)) 1 0 + own_labels l k) (sym down)
 
 pub own_more : (l : Labels) (v : ℕ) → 1 ≤ v → labelled l v ≡ v → own_labels l (v + 1 - 1) ≡ own_labels l (v - 1) + 1
-own_more l v h e = let c : ◌≡◌ {A = ℕ} (cond (eqb (labelled l v) v) 1 0) 1 = ap (λ b. cond b 1 0) (eq_eqb (labelled l v) v e) in let n = own_next l v h in omega arith
+own_more l v h e = let c : ◌≡◌ {A = ℕ} (cond (eqb (labelled l v) v) 1 0) 1 = ap (λ b. cond b 1 0) (eq-eqb (labelled l v) v e) in let n = own_next l v h in omega arith
 
 pub own_same : (l : Labels) (v : ℕ) → 1 ≤ v → (labelled l v ≡ v → ⊥) → own_labels l (v + 1 - 1) ≡ own_labels l (v - 1)
 own_same l v h e = let c : ◌≡◌ {A = ℕ} (cond (eqb (labelled l v) v) 1 0) 0 = ap (λ b. cond b 1 0) (ne_eqb (labelled l v) v e) in let n = own_next l v h in omega arith

@@ -1,7 +1,7 @@
 -- Which refusals apply to a call, by the tests that the program makes, and what is read where none does. Assumes nothing.
-use Rattle.std.proofs.Common.{◌≡◌, ℕ, ◌-◌, ◌<◌, ◌≤◌, true, false, ◌&&◌, leb, [], length, get_or, sym, refl, ap, ◌∙◌, subst, arith, leb_true}
+use Rattle.std.proofs.Common.{◌≡◌, ℕ, ◌-◌, ◌<◌, ◌≤◌, true, false, ◌&&◌, leb, [], length, get_or, sym, refl, ap, ◌∙◌, subst, arith, leb-true}
 use borrow.Author.Tests.{both_ways}
-use Rattle.std.proofs.lemmas.Bool.{and_parts, and_from, le_leb}
+use Rattle.std.proofs.lemmas.Bool.{and_parts, and_from, le-leb}
 use Rattle.cycle_space.specs.Shapes.{Node}
 use Rattle.cycle_space.specs.Moments.{shape}
 use Rattle.net.specs.Refusals.{number, NoneApplies, Smallest}
@@ -16,10 +16,10 @@ use Rattle.net.proofs.Turning.{blank, read_row}
 
 -- a number from 1 to n, by the test for one
 pub counted : (n v : ℕ) → true ≡ (leb 1 v && leb v n) → (1 ≤ v) × (v ≤ n)
-counted n v h = let p = and_parts (leb 1 v) (leb v n) (sym h) in (leb_true 1 v p.0, leb_true v n p.1)
+counted n v h = let p = and_parts (leb 1 v) (leb v n) (sym h) in (leb-true 1 v p.0, leb-true v n p.1)
 
 pub uncounted : (n v : ℕ) → false ≡ (leb 1 v && leb v n) → (1 ≤ v) × (v ≤ n) → ⊥
-uncounted n v h p = both_ways _ (sym h) (and_from (leb 1 v) (leb v n) (le_leb 1 v p.0) (le_leb v n p.1))
+uncounted n v h p = both_ways _ (sym h) (and_from (leb 1 v) (leb v n) (le-leb 1 v p.0) (le-leb v n p.1))
 
 -- where no other refusal applies, this one is the smallest
 the_only : {Applies : Refusal → Type 0} {e : Refusal} → Applies e → ((f : Refusal) → Applies f → f ≡ e) → Smallest Applies e
@@ -71,9 +71,9 @@ module _ {M : Type 0} (n : Net M) where
       let l = p.1 in
       read_row n.tables.supports (i - 1) (omega arith) ∙ sym (supports_stored n.tables (i - 1) (λ e. let q = p.0 in omega arith))
 
-  module _ (a b : ℕ) (is_a : true ≡ (leb 1 a && leb a n.tables.nodes)) (is_b : true ≡ (leb 1 b && leb b n.tables.nodes)) (ne : a ≡ b → ⊥) where
+  module _ (a b : ℕ) (is-a : true ≡ (leb 1 a && leb a n.tables.nodes)) (is_b : true ≡ (leb 1 b && leb b n.tables.nodes)) (ne : a ≡ b → ⊥) where
     nodes : Node (shape (view n)) a × Node (shape (view n)) b
-    nodes = (counted n.tables.nodes a is_a, counted n.tables.nodes b is_b)
+    nodes = (counted n.tables.nodes a is-a, counted n.tables.nodes b is_b)
 
     pub pipes_full : (Room n → ⊥) → Smallest (LayDeclined n a b) PipesFull
     pipes_full full = the_only (no_room refl full) only

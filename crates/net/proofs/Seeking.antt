@@ -1,8 +1,8 @@
 -- The net as the search takes it, and what next makes of what is found. Assumes nothing.
-use Rattle.std.proofs.Common.{◌≡◌, ℕ, ◌+◌, ◌-◌, ◌*◌, ◌<◌, ◌≤◌, Bool, true, false, eqb, ◌↔◌, List, [], ◌∷◌, ◌++◌, map, length, get_or, take, set, is_err, IsErrAnd, Ok, Err, Result, sym, refl, ap, ◌∙◌, subst, subst₂, arith, eq_eqb, eqb_true}
+use Rattle.std.proofs.Common.{◌≡◌, ℕ, ◌+◌, ◌-◌, ◌*◌, ◌<◌, ◌≤◌, Bool, true, false, eqb, ◌↔◌, List, [], ◌∷◌, ◌++◌, map, length, get_or, take, set, is_err, IsErrAnd, Ok, Err, Result, sym, refl, ap, ◌∙◌, subst, subst₂, arith, eq-eqb, eqb-true}
 use mathlib.Core.Path.{fun_ext}
 use borrow.Author.Tests.{both_ways}
-use Rattle.std.proofs.lemmas.List.{length_set, length_take_le, get_or_take, get_or_set_same, get_or_set_other, take_more_set}
+use Rattle.std.proofs.lemmas.List.{length-set, length-take-le, get_or-take, get_or-set_same, get_or-set_other, take_more_set}
 use Rattle.search.specs.Layouts.{Laid}
 use Rattle.cycle_space.specs.Rows.{Row, sum, odd}
 use Rattle.cycle_space.specs.Shapes.{Shape, Due}
@@ -32,13 +32,13 @@ module _ {M : Type 0} (n : Net M) where
   laid =
       let k = kept n in
       let few = k.few_pipes in
-      let long : length (take n.tables.pipes n.tables.ends) ≡ n.tables.pipes = length_take_le n.tables.pipes n.tables.ends (ends_for_all n) in
+      let long : length (take n.tables.pipes n.tables.ends) ≡ n.tables.pipes = length-take-le n.tables.pipes n.tables.ends (ends_for_all n) in
       let same : (j : ℕ) → j < n.tables.pipes → get_or n.tables.ends j nowhere ≡ get_or (take n.tables.pipes n.tables.ends) j nowhere =
-      λ j l. sym (get_or_take n.tables.pipes n.tables.ends j nowhere l) in
+      λ j l. sym (get_or-take n.tables.pipes n.tables.ends j nowhere l) in
       record {
         few_nodes = k.few_nodes;
         few_pipes = omega arith;
-        weighed = length_take_le n.tables.pipes n.column.now n.fits ∙ sym long;
+        weighed = length-take-le n.tables.pipes n.column.now n.fits ∙ sym long;
         first_in = λ j l. subst (λ e. (1 ≤ e.first) × (e.first ≤ n.tables.nodes)) (same j (omega arith)) (k.joined j (omega arith)).first_in;
         second_in = λ j l. subst (λ e. (1 ≤ e.second) × (e.second ≤ n.tables.nodes)) (same j (omega arith)) (k.joined j (omega arith)).second_in;
       }
@@ -48,8 +48,8 @@ module _ {M : Type 0} (n : Net M) where
   -- the count that is found tells whether all due rings are found
   pub complete_by_count : (found d : ℕ) → found ≡ length (rings n) → Due (shape (view n)) d → (eqb found d ≡ true) ↔ Due (shape (view n)) (length (rings n))
   complete_by_count found d e due = (
-    λ q. subst (Due (shape (view n))) (sym (eqb_true found d q) ∙ e) due,
-    λ all. eq_eqb found d (e ∙ due_unique (shape (view n)) (length (rings n)) d all due),
+    λ q. subst (Due (shape (view n))) (sym (eqb-true found d q) ∙ e) due,
+    λ all. eq-eqb found d (e ∙ due_unique (shape (view n)) (length (rings n)) d all due),
   )
 
   module _ (scratch : List M) where
@@ -154,9 +154,9 @@ module _ {M : Type 0} (none : M) (join : M → M → M) (within : M → M → Bo
       let k = kept n in
       let long = k.places.1 in
       ring_found t k due c least.closed least.is_odd (set t.rows t.found (record { words = c })) supports
-      (length_set t.rows t.found (record { words = c }) ∙ k.places.1) size
-      (λ i l. ap (λ r. r.words) (get_or_set_other t.rows t.found i (record { words = c }) no_pipes (λ e. omega arith)))
-      (ap (λ r. r.words) (get_or_set_same t.rows t.found (record { words = c }) no_pipes (omega arith)))
+      (length-set t.rows t.found (record { words = c }) ∙ k.places.1) size
+      (λ i l. ap (λ r. r.words) (get_or-set_other t.rows t.found i (record { words = c }) no_pipes (λ e. omega arith)))
+      (ap (λ r. r.words) (get_or-set_same t.rows t.found (record { words = c }) no_pipes (omega arith)))
       later
 
   module _ (fits : n.tables.pipes ≤ length n.column.now) (keeps : ∥ Keeps (one_ring_more n.tables c supports) ∥₁) where

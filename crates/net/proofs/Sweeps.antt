@@ -1,7 +1,7 @@
 -- A sweep over an array: place after place is written. Assumes nothing.
 use Rattle.std.proofs.Common.{◌≡◌, ℕ, ◌+◌, ◌<◌, ◌≤◌, List, length, get_or, set, sym, ◌∙◌, subst, arith}
 use native.Mathlib.Decide.{ℕ_discrete}
-use Rattle.std.proofs.lemmas.List.{length_set, get_or_set_same, get_or_set_other}
+use Rattle.std.proofs.lemmas.List.{length-set, get_or-set_same, get_or-set_other}
 
 -- the items below i have each become what `new` says, and the others are as at the start; d is read past the end
 pub record Swept {A : Type 0} (d : A) (size : ℕ) (start : List A) (new : ℕ → A) (items : List A) (i : ℕ) : Type 0 where
@@ -12,12 +12,12 @@ pub record Swept {A : Type 0} (d : A) (size : ℕ) (start : List A) (new : ℕ �
 module _ {A : Type 0} (d : A) (size : ℕ) (start : List A) (new : ℕ → A) (items : List A) (i : ℕ) (t : Swept d size start new items i) where
   pub swept_write : i < size → Swept d size start new (set items i (new i)) (i + 1)
   swept_write l = record {
-    long = length_set items i (new i) ∙ t.long;
+    long = length-set items i (new i) ∙ t.long;
     done = λ u h. elim (ℕ_discrete u i) [
-      | yes q ↦ subst (λ w. get_or (set items i (new i)) w d ≡ new w) (sym q) (get_or_set_same items i (new i) d (let k = t.long in omega arith))
-      | no q ↦ get_or_set_other items i u (new i) d q ∙ t.done u (omega arith)
+      | yes q ↦ subst (λ w. get_or (set items i (new i)) w d ≡ new w) (sym q) (get_or-set_same items i (new i) d (let k = t.long in omega arith))
+      | no q ↦ get_or-set_other items i u (new i) d q ∙ t.done u (omega arith)
     ];
-    left = λ u h. get_or_set_other items i u (new i) d (λ q. omega arith) ∙ t.left u (omega arith);
+    left = λ u h. get_or-set_other items i u (new i) d (λ q. omega arith) ∙ t.left u (omega arith);
   }
 
   -- the item at i is already what it shall become

@@ -1,5 +1,5 @@
 -- How the later supports are made even against a ring. Assumes nothing.
-use Rattle.std.proofs.Common.{◌≡◌, ℕ, ◌<◌, ◌≤◌, Bool, true, false, cond, ltb, List, [], length, get_or, sym, ap, ◌∙◌, ap₂, arith, ltb_true, lt_ltb}
+use Rattle.std.proofs.Common.{◌≡◌, ℕ, ◌<◌, ◌≤◌, Bool, true, false, cond, ltb, List, [], length, get_or, sym, ap, ◌∙◌, ap₂, arith, ltb-true, lt-ltb}
 use native.Mathlib.Decide.{dec_lt}
 use borrow.Author.Tests.{both_ways}
 use Rattle.std.proofs.lemmas.List.{get_or_past, get_or_default}
@@ -32,12 +32,12 @@ module _ (start : List StoredRow) (k : ℕ) (ring : Row) where
   pub turned_earlier : (u : ℕ) → u ≤ k → turned u ≡ get_or start u blank
   turned_earlier u l =
       ap (λ b. cond b (cond (odd ring (get_or start u blank).words) (record { words = sum (get_or start u blank).words (get_or start k blank).words }) (get_or start u blank)) (get_or start u blank))
-      (not_so (ltb k u) (λ e. let h = ltb_true k u e in omega arith))
+      (not_so (ltb k u) (λ e. let h = ltb-true k u e in omega arith))
 
   pub turned_later : (u : ℕ) → k < u → (b : Bool) → odd ring (get_or start u blank).words ≡ b
       → turned u ≡ cond b (record { words = sum (get_or start u blank).words (get_or start k blank).words }) (get_or start u blank)
   turned_later u l b e =
-      ap₂ (λ a b. cond a (cond b (record { words = sum (get_or start u blank).words (get_or start k blank).words }) (get_or start u blank)) (get_or start u blank)) (lt_ltb k u l) e
+      ap₂ (λ a b. cond a (cond b (record { words = sum (get_or start u blank).words (get_or start k blank).words }) (get_or start u blank)) (get_or start u blank)) (lt-ltb k u l) e
 
   -- all places swept
   pub turned_all : length start ≡ 256 → k < 256 → (items : List StoredRow) → Swept blank 256 start turned items 256 → Extended k (row_at start) ring (row_at items)

@@ -1,6 +1,6 @@
 -- The pipes that are seen, by the table of ends and the column, and what a write makes of them. Assumes nothing.
 use Rattle.std.proofs.Common.{◌≡◌, ℕ, zero, suc, ◌+◌, ◌-◌, ◌<◌, ◌≤◌, List, [], ◌∷◌, ◌++◌, map, length, take, set, sym, refl, ap, ◌∙◌, ap₂, arith}
-use Rattle.std.proofs.lemmas.List.{take_more_set, take_take, length_take_le}
+use Rattle.std.proofs.lemmas.List.{take_more_set, take-take, length-take-le}
 use Rattle.cycle_space.specs.Moments.{Pipe, Moment, add_pipe, drop_last, reweighed, reweigh_pipe}
 use Rattle.net.specs.Views.{pipes_of}
 use Rattle.cycle_space.specs.declared.ends.Ends.{Ends}
@@ -56,10 +56,10 @@ module _ {M : Type 0} (nodes pipes : ℕ) (ends : List Ends) (column : List M) w
 
 module _ {M : Type 0} (nodes pipes : ℕ) (ends : List Ends) (column : List M) (le : pipes ≤ length ends) (lc : pipes ≤ length column) where
   pub as_many : length (take pipes ends) ≡ length (take pipes column)
-  as_many = length_take_le pipes ends le ∙ sym (length_take_le pipes column lc)
+  as_many = length-take-le pipes ends le ∙ sym (length-take-le pipes column lc)
 
   pub seen_length : length (seen nodes pipes ends column).pipes ≡ pipes
-  seen_length = pipes_length (take pipes ends) (take pipes column) as_many ∙ length_take_le pipes ends le
+  seen_length = pipes_length (take pipes ends) (take pipes column) as_many ∙ length-take-le pipes ends le
 
   pub seen_laid : (e : Ends) (w : M) → pipes < length ends → pipes < length column
       → seen nodes (pipes + 1) (set ends pipes e) (set column pipes w) ≡ add_pipe (seen nodes pipes ends column) e.first e.second w
@@ -71,7 +71,7 @@ module _ {M : Type 0} (nodes pipes : ℕ) (ends : List Ends) (column : List M) (
   seen_lifted =
       ap (λ ps. record { nodes = nodes; pipes = ps })
       (pipes_take (pipes - 1) ends column
-      ∙ sym (take_take (pipes - 1) pipes (pipes_of ends column) (omega arith))
+      ∙ sym (take-take (pipes - 1) pipes (pipes_of ends column) (omega arith))
       ∙ ap₂ (λ k ps. take (k - 1) ps) (sym seen_length) (sym (pipes_take pipes ends column)))
 
   pub seen_reweighed : (j : ℕ) (w : M) → seen nodes pipes ends (set column j w) ≡ reweigh_pipe (seen nodes pipes ends column) (j + 1) w

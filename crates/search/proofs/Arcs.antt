@@ -1,7 +1,7 @@
 -- Where a pipe leads to from a state: to the node across, with its parity turned by a pipe of the support. Assumes nothing.
-use Rattle.std.proofs.Common.{◌≡◌, ℕ, ◌+◌, ◌-◌, ◌*◌, ◌%◌, ◌<◌, ◌≤◌, Bool, true, false, cond, not, eqb, ◌⊎◌, Some, sym, ap, ◌∙◌, inl, inr, ⊎_elim, arith, eq_eqb, eqb_true}
+use Rattle.std.proofs.Common.{◌≡◌, ℕ, ◌+◌, ◌-◌, ◌*◌, ◌%◌, ◌<◌, ◌≤◌, Bool, true, false, cond, not, eqb, ◌⊎◌, Some, sym, ap, ◌∙◌, inl, inr, ⊎_elim, arith, eq-eqb, eqb-true}
 use borrow.Author.Tests.{both_ways}
-use Rattle.std.proofs.lemmas.Bool.{cases_Bool, cond_true, cond_false}
+use Rattle.std.proofs.lemmas.Bool.{cases_Bool, cond-true, cond-false}
 use Rattle.cycle_space.specs.Rows.{Row, bit, add2}
 use Rattle.cycle_space.specs.Shapes.{Crosses}
 use Rattle.cycle_space.proofs.Booleans.{by_eqb, add2_comm}
@@ -37,13 +37,13 @@ module _ {M : Type 0} (t : Task M) (sound : Sound t) (u j : ℕ) (here : j < t.s
       ⊎ ((t.shape.second j ≡ node u) × (v ≡ arrival t.support (t.shape.first j) u j))
   arc_ways v leads = ⊎_elim
       (λ b.
-      let e = sym (cond_true (eqb (t.shape.first j) (node u)) _ _ b) ∙ leads in
-      inl (eqb_true _ _ b, cc))
+      let e = sym (cond-true (eqb (t.shape.first j) (node u)) _ _ b) ∙ leads in
+      inl (eqb-true _ _ b, cc))
       (λ b.
-      let e = sym (cond_false (eqb (t.shape.first j) (node u)) _ _ b) ∙ leads in
+      let e = sym (cond-false (eqb (t.shape.first j) (node u)) _ _ b) ∙ leads in
       ⊎_elim
-      (λ b'. let e' = sym (cond_true (eqb (t.shape.second j) (node u)) _ _ b') ∙ e in inr (eqb_true _ _ b', cc))
-      (λ b'. let e' = sym (cond_false (eqb (t.shape.second j) (node u)) _ _ b') ∙ e in let z : ◌≡◌ {A = ℕ} 0 1 = cc in absurd (omega arith))
+      (λ b'. let e' = sym (cond-true (eqb (t.shape.second j) (node u)) _ _ b') ∙ e in inr (eqb-true _ _ b', cc))
+      (λ b'. let e' = sym (cond-false (eqb (t.shape.second j) (node u)) _ _ b') ∙ e in let z : ◌≡◌ {A = ℕ} 0 1 = cc in absurd (omega arith))
       (cases_Bool (eqb (t.shape.second j) (node u))))
       (cases_Bool (eqb (t.shape.first j) (node u)))
 
@@ -67,17 +67,17 @@ module _ {M : Type 0} (t : Task M) (sound : Sound t) (u j : ℕ) (here : j < t.s
   arc_across b c = ⊎_elim
       (λ at_first.
       let one = (sound.net.ends_in j here).1.0 in
-      let to : t.shape.second j ≡ b = ⊎_elim (λ w. w.1) (λ w. w.0 ∙ sym (eqb_true _ _ at_first) ∙ w.1) c in (
+      let to : t.shape.second j ≡ b = ⊎_elim (λ w. w.1) (λ w. w.0 ∙ sym (eqb-true _ _ at_first) ∙ w.1) c in (
         arrival t.support (t.shape.second j) u j,
-        cond_true (eqb (t.shape.first j) (node u)) _ _ at_first,
+        cond-true (eqb (t.shape.first j) (node u)) _ _ at_first,
         arrival_node t.support (t.shape.second j) u j one ∙ to,
         arrival_odd t.support (t.shape.second j) u j one,
       ))
       (λ not_first.
       let one = (sound.net.ends_in j here).0.0 in
-      let at_second : (t.shape.second j ≡ node u) × (t.shape.first j ≡ b) = ⊎_elim (λ w. absurd (both_ways _ not_first (eq_eqb _ _ w.0))) (λ w. w) c in (
+      let at_second : (t.shape.second j ≡ node u) × (t.shape.first j ≡ b) = ⊎_elim (λ w. absurd (both_ways _ not_first (eq-eqb _ _ w.0))) (λ w. w) c in (
         arrival t.support (t.shape.first j) u j,
-        cond_false (eqb (t.shape.first j) (node u)) _ _ not_first ∙ cond_true (eqb (t.shape.second j) (node u)) _ _ (eq_eqb _ _ at_second.0),
+        cond-false (eqb (t.shape.first j) (node u)) _ _ not_first ∙ cond-true (eqb (t.shape.second j) (node u)) _ _ (eq-eqb _ _ at_second.0),
         arrival_node t.support (t.shape.first j) u j one ∙ at_second.1,
         arrival_odd t.support (t.shape.first j) u j one,
       ))

@@ -1,7 +1,7 @@
 -- The lightest candidate of some starts, one start after the other, and of all. Assumes nothing.
 use Rattle.std.proofs.Common.{◌≡◌, ℕ, ◌+◌, ◌-◌, ◌*◌, ◌%◌, ◌<◌, true, false, eqb, List, get_or, Some, None, Option, sym, ap, ◌∙◌, subst, ⊎_elim, arith, below_more}
-use borrow.Author.Tests.{eqb_false}
-use Rattle.std.proofs.lemmas.Bool.{cases_Bool, cond_true, cond_false}
+use borrow.Author.Tests.{eqb-false}
+use Rattle.std.proofs.lemmas.Bool.{cases_Bool, cond-true, cond-false}
 use Rattle.cycle_space.specs.Rows.{Row, add2}
 use Rattle.cycle_space.specs.Bases.{touching}
 use Rattle.cycle_space.proofs.Booleans.{add2_same}
@@ -24,7 +24,7 @@ module _ {M : Type 0} (t : Task M) where
         closed = record {
           of_pipes = a.of_pipes;
           even = λ v.
-              let off = eqb_false (touching t.shape x v t.shape.pipes % 2) 1
+              let off = eqb-false (touching t.shape x v t.shape.pipes % 2) 1
               (a.ends v ∙ ap (λ n. add2 (eqb t.start v) (eqb n v)) there ∙ add2_same (eqb t.start v)) in
               omega arith;
         };
@@ -55,9 +55,9 @@ module _ {M : Type 0} (t : Task M) where
     least_more k None (Some y) p q = (good_from k y q.0, below_more _ _ (λ s h st c w. absurd (p s h st c w)) (λ _. q.1))
     least_more k (Some x) None p q = (p.0, below_more _ _ p.1 (λ _ c w. absurd (q c w)))
     least_more k (Some x) (Some y) p q = ⊎_elim
-        (λ le. rw (cond_true (t.within x.weight y.weight) (Some x) (Some y) le)
+        (λ le. rw (cond-true (t.within x.weight y.weight) (Some x) (Some y) le)
         (p.0, below_more _ _ p.1 (λ _ c w. laws.base.trans _ _ _ le (q.1 c w))))
-        (λ gt. rw (cond_false (t.within x.weight y.weight) (Some x) (Some y) gt)
+        (λ gt. rw (cond-false (t.within x.weight y.weight) (Some x) (Some y) gt)
         (good_from k y q.0, below_more _ _ (λ s h st c w. laws.base.trans _ _ _ (heavier laws.base _ _ gt) (p.1 s h st c w)) (λ _. q.1)))
         (cases_Bool (t.within x.weight y.weight))
 

@@ -1,6 +1,6 @@
 -- Where a pipe leads to, by the tests that the program makes. Assumes nothing.
-use Rattle.std.proofs.Common.{◌≡◌, ℕ, ◌*◌, ◌<◌, ◌≤◌, Bool, length, get_or, Some, None, sym, ap, ◌∙◌, subst, arith, eq_eqb, ne_eqb}
-use Rattle.std.proofs.lemmas.Bool.{cond_true, cond_false}
+use Rattle.std.proofs.Common.{◌≡◌, ℕ, ◌*◌, ◌<◌, ◌≤◌, Bool, length, get_or, Some, None, sym, ap, ◌∙◌, subst, arith, eq-eqb, ne_eqb}
+use Rattle.std.proofs.lemmas.Bool.{cond-true, cond-false}
 use Rattle.cycle_space.specs.declared.ends.Ends.{Ends}
 use Rattle.search.specs.Layouts.{nowhere}
 use Rattle.search.specs.Tasks.{task, Sound, node, arrival, arc}
@@ -30,16 +30,16 @@ module _ {M : Type 0} (none : M) (join : M → M → M) (within : M → M → Bo
   module _ (u : ℕ) where
     pub from_first : (v : ℕ) → v ≡ arrival h.support ends.second u j → ends.first ≡ node u → (Some v ≡ arc (task none join within h) u j) × (v < 2 * h.nodes)
     from_first v is at = (
-      sym (cond_true _ _ _ (eq_eqb _ _ (first_seen ∙ at)) ∙ ap (λ n. Some (arrival h.support n u j)) second_seen ∙ ap Some (sym is)),
+      sym (cond-true _ _ _ (eq-eqb _ _ (first_seen ∙ at)) ∙ ap (λ n. Some (arrival h.support n u j)) second_seen ∙ ap Some (sym is)),
       subst (λ n. n < 2 * h.nodes) (sym is) (arrival_inside h.support ends.second u j second_in.0 h.nodes second_in.1),
     )
 
     pub from_second : (v : ℕ) → v ≡ arrival h.support ends.first u j → (ends.first ≡ node u → ⊥) → ends.second ≡ node u
         → (Some v ≡ arc (task none join within h) u j) × (v < 2 * h.nodes)
     from_second v is off at = (
-      sym (cond_false _ _ _ (ne_eqb _ _ (λ q. off (sym first_seen ∙ q))) ∙ cond_true _ _ _ (eq_eqb _ _ (second_seen ∙ at)) ∙ ap (λ n. Some (arrival h.support n u j)) first_seen ∙ ap Some (sym is)),
+      sym (cond-false _ _ _ (ne_eqb _ _ (λ q. off (sym first_seen ∙ q))) ∙ cond-true _ _ _ (eq-eqb _ _ (second_seen ∙ at)) ∙ ap (λ n. Some (arrival h.support n u j)) first_seen ∙ ap Some (sym is)),
       subst (λ n. n < 2 * h.nodes) (sym is) (arrival_inside h.support ends.first u j first_in.0 h.nodes first_in.1),
     )
 
     pub from_neither : (ends.first ≡ node u → ⊥) → (ends.second ≡ node u → ⊥) → None ≡ arc (task none join within h) u j
-    from_neither off off' = sym (cond_false _ _ _ (ne_eqb _ _ (λ q. off (sym first_seen ∙ q))) ∙ cond_false _ _ _ (ne_eqb _ _ (λ q. off' (sym second_seen ∙ q))))
+    from_neither off off' = sym (cond-false _ _ _ (ne_eqb _ _ (λ q. off (sym first_seen ∙ q))) ∙ cond-false _ _ _ (ne_eqb _ _ (λ q. off' (sym second_seen ∙ q))))

@@ -4,7 +4,7 @@ use mathlib.Core.HLevel.{Π_prop, ×_prop}
 use mathlib.Core.Logic.{∥∥₁_elim}
 use native.Mathlib.Nat.{ℕ_set}
 use native.Mathlib.Bridge.{le_prop}
-use Rattle.std.proofs.lemmas.List.{length_map, get_or_map}
+use Rattle.std.proofs.lemmas.List.{length-map, get_or-map}
 use Rattle.cycle_space.specs.Rows.{Row}
 use Rattle.cycle_space.specs.declared.ends.Ends.{Ends}
 use Rattle.search.specs.Layouts.{Laid, nowhere}
@@ -26,10 +26,10 @@ laid l = ∥∥₁_elim l.laid laid_prop (λ k. k)
 
 -- an end that is read stands in the shape
 pub end_seen : (f : Ends → ℕ) (es : List Ends) (j : ℕ) → j < length es → get_or (map f es) j 0 ≡ f (get_or es j nowhere)
-end_seen f es j h = get_or_map f es j nowhere 0 h
+end_seen f es j h = get_or-map f es j nowhere 0 h
 
 pub pipes_seen : (es : List Ends) → length (map (λ (e : Ends). e.first) es) ≡ length es
-pipes_seen es = length_map es (λ e. e.first)
+pipes_seen es = length-map es (λ e. e.first)
 
 module _ {M : Type 0} (none : M) (join : M → M → M) (within : M → M → Bool) (l : Layout M) (support : Row) (s : ℕ) where
   pub bounded_from : Bounded (from_node none join within l support s)

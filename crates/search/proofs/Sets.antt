@@ -97,7 +97,7 @@ module _ {M : Type 0} {t : Task M} (laws : Lawful t) where
           (subst (λ y. t.within y d ≡ true) (heft_out x j h e ∙ laws.base.comm (weight t j) (heft_of (flip x j))) le)
           (grows laws d (weight t j)))
       go false e =
-          let in_now : flip x j j ≡ true = ap (λ b. add2 b (eqb j j)) e ∙ eqb_same j in
+          let in-now : flip x j j ≡ true = ap (λ b. add2 b (eqb j j)) e ∙ eqb_same j in
           let is : heft_of (flip x j) ≡ t.join (heft_of x) (weight t j) =
-          heft_out (flip x j) j h in_now ∙ ap (t.join (weight t j)) (heft_same (flip (flip x j) j) x (flip_twice x j)) ∙ laws.base.comm (weight t j) (heft_of x) in
+          heft_out (flip x j) j h in-now ∙ ap (t.join (weight t j)) (heft_same (flip (flip x j) j) x (flip_twice x j)) ∙ laws.base.comm (weight t j) (heft_of x) in
           subst (λ y. t.within y (t.join d (weight t j)) ≡ true) (sym is) (laws.order (heft_of x) d (weight t j) le)

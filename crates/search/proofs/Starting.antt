@@ -1,6 +1,6 @@
 -- The front before the first turn. Assumes nothing.
-use Rattle.std.proofs.Common.{◌≡◌, ℕ, zero, suc, ◌-◌, ◌*◌, ◌%◌, ◌<◌, ◌≤◌, true, false, cond, eqb, List, length, get_or, set, replicate, sym, refl, ap, ◌∙◌, subst, ⊎_elim, arith, length_set, get_or_set_other, get_or_set_same}
-use lib.ListN.{length_replicate, get_or_replicate}
+use Rattle.std.proofs.Common.{◌≡◌, ℕ, zero, suc, ◌-◌, ◌*◌, ◌%◌, ◌<◌, ◌≤◌, true, false, cond, eqb, List, length, get_or, set, replicate, sym, refl, ap, ◌∙◌, subst, ⊎_elim, arith, length-set, get_or-set_other, get_or-set_same}
+use lib.ListN.{length-replicate, get_or-replicate}
 use borrow.Author.Tests.{both_ways}
 use Rattle.std.proofs.lemmas.Bool.{cases_eq, cases_lt}
 use Rattle.std.proofs.lemmas.List.{get_or_past}
@@ -19,7 +19,7 @@ use Rattle.search.proofs.Measuring.{Lawful, monoid, self}
 use Rattle.search.proofs.Sets.{row_heft}
 
 all_false : (n k : ℕ) → get_or (replicate n false) k false ≡ false
-all_false n k = ⊎_elim (λ h. get_or_replicate n k false false h) (λ h. get_or_past (replicate n false) k false (let e = length_replicate n false in omega arith)) (cases_lt k n)
+all_false n k = ⊎_elim (λ h. get_or-replicate n k false false h) (λ h. get_or_past (replicate n false) k false (let e = length-replicate n false in omega arith)) (cases_lt k n)
 
 module _ {M : Type 0} (t : Task M) (laws : Lawful t) (sound : Sound t) where
   empty_weight : row_weight t empty ≡ t.none
@@ -59,30 +59,30 @@ module _ {M : Type 0} (t : Task M) (laws : Lawful t) (sound : Sound t) where
 
     only : (k : ℕ) → get_or first.reached k false ≡ true → k ≡ even_start t
     only k r = ⊎_elim (λ e. e)
-        (λ ne. absurd (both_ways _ (get_or_set_other (replicate 128 false) (even_start t) k true false ne ∙ all_false 128 k) r))
+        (λ ne. absurd (both_ways _ (get_or-set_other (replicate 128 false) (even_start t) k true false ne ∙ all_false 128 k) r))
         (cases_eq k (even_start t))
 
     never : (k : ℕ) → get_or first.settled k false ≡ true → ⊥
     never k s = both_ways _ (all_false 128 k) s
 
     zero_there : at t zeroed (even_start t) ≡ t.none
-    zero_there = get_or_set_same d (even_start t) t.none t.none (let h = sound.start_in.0 in let h' = sound.start_in.1 in omega arith)
+    zero_there = get_or-set_same d (even_start t) t.none t.none (let h = sound.start_in.0 in let h' = sound.start_in.1 in omega arith)
 
     pub started : Searching t first zeroed
     started = record {
       kept = record {
-        sized = let e = length_set d (even_start t) t.none in omega arith;
-        reached_sized = length_set (replicate 128 false) (even_start t) true;
+        sized = let e = length-set d (even_start t) t.none in omega arith;
+        reached_sized = length-set (replicate 128 false) (even_start t) true;
         settled_sized = refl;
         ways_sized = refl;
-        start_reached = get_or_set_same (replicate 128 false) (even_start t) true false (let h = sound.start_in.0 in let h' = sound.start_in.1 in let k = sound.net.few_nodes in omega arith);
+        start_reached = get_or-set_same (replicate 128 false) (even_start t) true false (let h = sound.start_in.0 in let h' = sound.start_in.1 in let k = sound.net.few_nodes in omega arith);
         start_zero = zero_there;
         inside = λ k r. let e = only k r in let h = sound.start_in.0 in let h' = sound.start_in.1 in omega arith;
         known = λ k s. absurd (never k s);
         attained = λ k r.
             let P : ℕ → Type 0 = λ n. Attained t n (row_at first.ways n) (at t zeroed n) in
             let x : row_at first.ways (even_start t) ≡ empty =
-            ap (λ (w : Way). w.words) (get_or_replicate 128 (even_start t) (record { words = empty }) blank (let h = sound.start_in.0 in let h' = sound.start_in.1 in let k = sound.net.few_nodes in omega arith)) in
+            ap (λ (w : Way). w.words) (get_or-replicate 128 (even_start t) (record { words = empty }) blank (let h = sound.start_in.0 in let h' = sound.start_in.1 in let k = sound.net.few_nodes in omega arith)) in
             subst P (sym (only k r)) (rw (x, zero_there) start_attained);
       };
       order = λ a b h o. absurd (never a h);

@@ -1,5 +1,5 @@
 -- How a turn of the search begins and ends, that the turns end, and what holds when they have. Assumes nothing.
-use Rattle.std.proofs.Common.{◌≡◌, ℕ, zero, suc, ◌*◌, ◌<◌, ◌≤◌, Bool, true, false, ◌≢◌, List, [], ◌∷◌, length, get_or, set, sym, refl, ◌∙◌, subst, ⊎_elim, arith, length_set, get_or_set_other, get_or_set_same}
+use Rattle.std.proofs.Common.{◌≡◌, ℕ, zero, suc, ◌*◌, ◌<◌, ◌≤◌, Bool, true, false, ◌≢◌, List, [], ◌∷◌, length, get_or, set, sym, refl, ◌∙◌, subst, ⊎_elim, arith, length-set, get_or-set_other, get_or-set_same}
 use borrow.Author.Tests.{both_ways}
 use Rattle.std.proofs.lemmas.Bool.{cases_eq, cases_Bool}
 use Rattle.search.specs.Fronts.{Open, Nearest}
@@ -25,21 +25,21 @@ module _ {M : Type 0} (t : Task M) (laws : Lawful t) where
     in_settled = let h = near.inside in let e = s.kept.settled_sized in omega arith
 
     now_settled : get_or (set f.settled u true) u false ≡ true
-    now_settled = get_or_set_same f.settled u true false in_settled
+    now_settled = get_or-set_same f.settled u true false in_settled
 
     was_settled : (k : ℕ) → k ≢ u → get_or (set f.settled u true) k false ≡ true → get_or f.settled k false ≡ true
-    was_settled k ne h = sym (get_or_set_other f.settled u k true false ne) ∙ h
+    was_settled k ne h = sym (get_or-set_other f.settled u k true false ne) ∙ h
 
     was_open : (k : ℕ) → Open f.reached (set f.settled u true) k → (k ≢ u) × Open f.reached f.settled k
     was_open k o =
         let ne : k ≢ u = λ e. both_ways _ (subst (λ (n : ℕ). get_or (set f.settled u true) n false ≡ false) e o.unsettled) now_settled in
-        (ne, record { in_reach = o.in_reach; unsettled = sym (get_or_set_other f.settled u k true false ne) ∙ o.unsettled })
+        (ne, record { in_reach = o.in_reach; unsettled = sym (get_or-set_other f.settled u k true false ne) ∙ o.unsettled })
 
     kept_marked : Kept t marked d
     kept_marked = record {
       sized = s.kept.sized;
       reached_sized = s.kept.reached_sized;
-      settled_sized = length_set f.settled u true ∙ s.kept.settled_sized;
+      settled_sized = length-set f.settled u true ∙ s.kept.settled_sized;
       ways_sized = s.kept.ways_sized;
       start_reached = s.kept.start_reached;
       start_zero = s.kept.start_zero;

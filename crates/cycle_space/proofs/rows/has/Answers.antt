@@ -5,10 +5,10 @@ use Rattle.cycle_space.specs.Rows.{bit, holds}
 use Rattle.cycle_space.proofs.Bits.{holds_bit, holds_past}
 use Rattle.cycle_space.proofs.rows.has.Goals as goal
 
-pub returns_then_pipe_eq0 : goal.returns_then_pipe_eq0
-returns_then_pipe_eq0 c =
+pub returns-then-pipe-eq0 : goal.returns-then-pipe-eq0
+returns-then-pipe-eq0 c =
     let l : length c.args.row ≡ 4 = search rules in
-    elim c.then_pipe_eq0.either [
+    elim c.then-pipe-eq0.either [
       | inl q ↦ sym (ap (holds c.args.row) q)
       | inr q ↦ sym (holds_past c.args.row l c.args.pipe q.1)
     ]

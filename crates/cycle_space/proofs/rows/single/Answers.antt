@@ -4,8 +4,8 @@ use Rattle.cycle_space.specs.Rows.{row_of, empty}
 use Rattle.cycle_space.proofs.Singles.{shifted_one, marked_is, none_marked}
 use Rattle.cycle_space.proofs.rows.single.Goals as goal
 
-pub returns_then_pipe_eq0 : goal.returns_then_pipe_eq0
-returns_then_pipe_eq0 c = none_marked c.args.pipe (λ p. elim c.then_pipe_eq0.either [ inl q ↦ omega (arith, p.0) | inr q ↦ omega (arith, p.1, q.1) ])
+pub returns-then-pipe-eq0 : goal.returns-then-pipe-eq0
+returns-then-pipe-eq0 c = none_marked c.args.pipe (λ p. elim c.then-pipe-eq0.either [ inl q ↦ omega (arith, p.0) | inr q ↦ omega (arith, p.1, q.1) ])
 
 pub returns : goal.returns
 returns c =

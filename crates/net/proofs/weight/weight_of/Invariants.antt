@@ -3,7 +3,7 @@ use Rattle.cycle_space.specs.Moments.{weight_from}
 use Rattle.net.proofs.weight.weight_of.Given as goal
 
 -- what is joined so far, and the weight of what is left, are the whole
-abbrev pub invariant_loop_place : goal.invariant_loop_place
-invariant_loop_place g l =
+abbrev pub invariant-loop-place : goal.invariant-loop-place
+invariant-loop-place g l =
     let m = g.M.Measure in
     m.join l.sum (weight_from m.zero m.join l.row (l.place + 1) (drop l.place l.column)) ≡ weight_from m.zero m.join l.row 1 l.column

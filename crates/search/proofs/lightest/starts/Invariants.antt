@@ -4,5 +4,5 @@ use Rattle.search.specs.Layouts.{nowhere}
 use Rattle.search.proofs.lightest.starts.Given as goal
 
 -- no pipe of the support so far is drawn from the node
-abbrev pub invariant_loop_place : goal.invariant_loop_place
-invariant_loop_place g l = (j : ℕ) → j < l.place → bit l.support j ≡ true → (get_or l.net.ends.now j nowhere).first ≡ l.node → ⊥
+abbrev pub invariant-loop-place : goal.invariant-loop-place
+invariant-loop-place g l = (j : ℕ) → j < l.place → bit l.support j ≡ true → (get_or l.net.ends.now j nowhere).first ≡ l.node → ⊥

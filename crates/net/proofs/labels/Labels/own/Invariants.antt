@@ -1,5 +1,5 @@
 use Rattle.net.proofs.Sweeps.{Swept}
 use Rattle.net.proofs.labels.Labels.own.Given as goal
 
-abbrev pub invariant_loop_v : goal.invariant_loop_v
-invariant_loop_v l = Swept 0 65 l.initial.of (λ u. u) l.of l.v
+abbrev pub invariant-loop-v : goal.invariant-loop-v
+invariant-loop-v l = Swept 0 65 l.initial.of (λ u. u) l.of l.v

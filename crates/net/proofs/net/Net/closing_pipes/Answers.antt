@@ -11,63 +11,63 @@ use Rattle.net.proofs.Kept.{kept, ends_small, first_seen, second_seen, shape_pip
 use Rattle.net.proofs.Labelling.{label_next}
 use Rattle.net.proofs.Beginning.{Begun, begun_none, begun_few, begun_closing, begun_other, begun_all}
 use Rattle.net.proofs.net.Net.closing_pipes.Goals as goal
-use Rattle.net.proofs.net.Net.closing_pipes.Goals.{then_joined, else_joined}
+use Rattle.net.proofs.net.Net.closing_pipes.Goals.{then-joined, else-joined}
 
-pub loop_j_init : goal.loop_j_init
-loop_j_init g c = begun_none (shape (view c.args.self.now)) c.own_labels.result _ refl c.own_labels.ensures
+pub loop-j-init : goal.loop-j-init
+loop-j-init g c = begun_none (shape (view c.args.self.now)) c.own_labels.result _ refl c.own_labels.ensures
 
-pub offset_bounds_self_j : goal.offset_bounds_self_j
-offset_bounds_self_j g c = let few = (kept c.args.self.now).few_pipes in omega arith
+pub offset-bounds-self-j : goal.offset-bounds-self-j
+offset-bounds-self-j g c = let few = (kept c.args.self.now).few_pipes in omega arith
 
-pub bounds_self_j : goal.bounds_self_j
-bounds_self_j g c = let few = (kept c.args.self.now).few_pipes in omega arith
+pub bounds-self-j : goal.bounds-self-j
+bounds-self-j g c = let few = (kept c.args.self.now).few_pipes in omega arith
 
-pub joined_requires : goal.joined_requires
-joined_requires g c = ends_small c.args.self.now c.loop_j.j c.loop_j_test.true
+pub joined-requires : goal.joined-requires
+joined-requires g c = ends_small c.args.self.now c.loop-j.j c.loop-j-test.true
 
-pub offset_bounds_of_closing : goal.offset_bounds_of_closing
-offset_bounds_of_closing g c =
+pub offset-bounds-of-closing : goal.offset-bounds-of-closing
+offset-bounds-of-closing g c =
     let few = (kept c.args.self.now).few_pipes in
-    let most = begun_few _ _ _ _ _ c.loop_j.invariant in
+    let most = begun_few _ _ _ _ _ c.loop-j.invariant in
     omega arith
 
-pub bounds_of_closing : goal.bounds_of_closing
-bounds_of_closing g c =
+pub bounds-of-closing : goal.bounds-of-closing
+bounds-of-closing g c =
     let few = (kept c.args.self.now).few_pipes in
-    let most = begun_few _ _ _ _ _ c.loop_j.invariant in
+    let most = begun_few _ _ _ _ _ c.loop-j.invariant in
     omega arith
 
-pub overflow_add_closing : goal.overflow_add_closing
-overflow_add_closing g c =
+pub overflow-add-closing : goal.overflow-add-closing
+overflow-add-closing g c =
     let few = (kept c.args.self.now).few_pipes in
-    let most = begun_few _ _ _ _ _ c.loop_j.invariant in
+    let most = begun_few _ _ _ _ _ c.loop-j.invariant in
     omega arith
 
-pub lay_requires : goal.lay_requires
-lay_requires g c = ends_small c.args.self.now c.loop_j.j c.loop_j_test.true
+pub lay-requires : goal.lay-requires
+lay-requires g c = ends_small c.args.self.now c.loop-j.j c.loop-j-test.true
 
-pub loop_j_preserved : goal.loop_j_preserved
-loop_j_preserved g c =
+pub loop-j-preserved : goal.loop-j-preserved
+loop-j-preserved g c =
     let n = c.args.self.now in
     let N : Shape = shape (view n) in
-    let j : ℕ = c.loop_j.j in
+    let j : ℕ = c.loop-j.j in
     let few = (kept n).few_pipes in
     let pipes = shape_pipes n in
-    let l : j < n.tables.pipes = c.loop_j_test.true in
+    let l : j < n.tables.pipes = c.loop-j-test.true in
     let ends : Ends = get_or n.tables.ends j nowhere in
     let la : ends.first < 65 = (ends_small n j l).0 in
     let lb : ends.second < 65 = (ends_small n j l).1 in
-    let inv : Begun N c.loop_j.labels c.loop_j.closing c.loop_j.of j = c.loop_j.invariant in
-    let most : c.loop_j.closing ≤ j = begun_few _ _ _ _ _ inv in
+    let inv : Begun N c.loop-j.labels c.loop-j.closing c.loop-j.of j = c.loop-j.invariant in
+    let most : c.loop-j.closing ≤ j = begun_few _ _ _ _ _ inv in
     let told : (v : ℕ) → v < 65 → labelled c.lay.new.self v ≡ label N (j + 1) v = λ v h.
-    label_next N j c.loop_j.labels _ _ _ (first_seen n j l) (second_seen n j l) la lb inv.told c.lay.ensures v h ∙ ap (λ i. label N i v) (let q : suc j ≡ j + 1 = omega arith in q) in
+    label_next N j c.loop-j.labels _ _ _ (first_seen n j l) (second_seen n j l) la lb inv.told c.lay.ensures v h ∙ ap (λ i. label N i v) (let q : suc j ≡ j + 1 = omega arith in q) in
     let tells : c.joined.result ≡ closes N j =
     c.joined.ensures ∙ ap₂ eqb (inv.told ends.first la ∙ ap (label N j) (sym (first_seen n j l))) (inv.told ends.second lb ∙ ap (label N j) (sym (second_seen n j l))) in
-    elim c.if_joined.branch [
-      | then_joined w ↦ subst₂ (λ k xs. Begun N c.lay.new.self k xs (j + 1)) (sym w.closing_is) (sym w.of_is)
-          (begun_closing N (omega arith) j (omega arith) c.loop_j.labels c.lay.new.self _ _ inv told (sym tells ∙ w.if_joined.true) (omega arith) _ w.single.ensures)
-      | else_joined w ↦ subst₂ (λ k xs. Begun N c.lay.new.self k xs (j + 1)) (sym w.closing_is) (sym w.of_is)
-          (begun_other N (omega arith) j (omega arith) c.loop_j.labels c.lay.new.self _ _ inv told (sym tells ∙ w.if_joined.false))
+    elim c.if-joined.branch [
+      | then-joined w ↦ subst₂ (λ k xs. Begun N c.lay.new.self k xs (j + 1)) (sym w.closing-is) (sym w.of-is)
+          (begun_closing N (omega arith) j (omega arith) c.loop-j.labels c.lay.new.self _ _ inv told (sym tells ∙ w.if-joined.true) (omega arith) _ w.single.ensures)
+      | else-joined w ↦ subst₂ (λ k xs. Begun N c.lay.new.self k xs (j + 1)) (sym w.closing-is) (sym w.of-is)
+          (begun_other N (omega arith) j (omega arith) c.loop-j.labels c.lay.new.self _ _ inv told (sym tells ∙ w.if-joined.false))
     ]
 
 pub returns : goal.returns
@@ -75,9 +75,9 @@ returns g c =
     let n = c.args.self.now in
     let few = (kept n).few_pipes in
     let pipes = shape_pipes n in
-    let low = c.loop_j.auto.j_end in
-    let end = c.loop_j_test.false in
-    let all : c.loop_j.j ≡ (shape (view n)).pipes = omega arith in
-    λ i. begun_all (shape (view n)) (omega arith) c.loop_j.labels c.loop_j.closing c.loop_j.of
-    (subst (Begun (shape (view n)) c.loop_j.labels c.loop_j.closing c.loop_j.of) all c.loop_j.invariant) i
+    let low = c.loop-j.auto.j-end in
+    let end = c.loop-j-test.false in
+    let all : c.loop-j.j ≡ (shape (view n)).pipes = omega arith in
+    λ i. begun_all (shape (view n)) (omega arith) c.loop-j.labels c.loop-j.closing c.loop-j.of
+    (subst (Begun (shape (view n)) c.loop-j.labels c.loop-j.closing c.loop-j.of) all c.loop-j.invariant) i
     ∙ ap (λ N. alone N i) (view_shape n)

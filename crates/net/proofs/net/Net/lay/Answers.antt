@@ -1,41 +1,41 @@
 use Rattle.std.proofs.Common.{◌<◌, length, set, sym, refl, ap, arith}
-use Rattle.std.proofs.lemmas.List.{length_set}
+use Rattle.std.proofs.lemmas.List.{length-set}
 use Rattle.net.specs.Calls.{Room}
 use Rattle.net.proofs.Kept.{kept, ends_for_all, pipes_seen}
 use Rattle.net.proofs.Keeping.{pipe_laid}
 use Rattle.net.proofs.Replies.{counted, pipes_full, lays}
 use Rattle.net.proofs.Views.{seen_laid}
 use Rattle.net.proofs.net.Net.lay.Goals as goal
-use Rattle.net.proofs.net.Net.lay.Goals.{then_place_ge_MOST_PIPES_via_then_place_ge_MOST_PIPES, then_place_ge_MOST_PIPES_via_else_place_ge_MOST_PIPES+then_place_self}
+use Rattle.net.proofs.net.Net.lay.Goals.{then-place-ge-MOST-PIPES-via-then-place-ge-MOST-PIPES, then-place-ge-MOST-PIPES-via-else-place-ge-MOST-PIPES+then-place-self}
 
-pub returns_then_place_ge_MOST_PIPES : goal.returns_then_place_ge_MOST_PIPES
-returns_then_place_ge_MOST_PIPES g c =
+pub returns-then-place-ge-MOST-PIPES : goal.returns-then-place-ge-MOST-PIPES
+returns-then-place-ge-MOST-PIPES g c =
     let n = c.args.self.now in
     let e = pipes_seen n in
     let full : Room n → ⊥ = λ room. let a = room.0 in let b = room.1 in
-    elim c.then_place_ge_MOST_PIPES.branch [
-      | then_place_ge_MOST_PIPES_via_then_place_ge_MOST_PIPES w ↦ omega arith
-      | then_place_ge_MOST_PIPES_via_else_place_ge_MOST_PIPES+then_place_self w ↦ omega arith
+    elim c.then-place-ge-MOST-PIPES.branch [
+      | then-place-ge-MOST-PIPES-via-then-place-ge-MOST-PIPES w ↦ omega arith
+      | then-place-ge-MOST-PIPES-via-else-place-ge-MOST-PIPES+then-place-self w ↦ omega arith
     ] in
     record {
-      replied = (pipes_full n c.args.first c.args.second c.if_not_has_node.ensures c.if_not_has_node_2.ensures c.if_first_second.false full, refl);
+      replied = (pipes_full n c.args.first c.args.second c.if-not-has-node.ensures c.if-not-has-node-2.ensures c.if-first-second.false full, refl);
       lent = refl;
     }
 
-pub invariant_of_self : goal.invariant_of_self
-invariant_of_self g c =
+pub invariant-of-self : goal.invariant-of-self
+invariant-of-self g c =
     let n = c.args.self.now in
-    let a = counted n.tables.nodes c.args.first c.if_not_has_node.ensures in
-    let b = counted n.tables.nodes c.args.second c.if_not_has_node_2.ensures in (
-      simp length_set (omega arith),
+    let a = counted n.tables.nodes c.args.first c.if-not-has-node.ensures in
+    let b = counted n.tables.nodes c.args.second c.if-not-has-node-2.ensures in (
+      simp length-set (omega arith),
       (
         ∣ pipe_laid n.tables (kept n) _
             (record {
               first_in = (omega (arith, a.0, b.0), omega (arith, a.1, b.1));
               second_in = (omega (arith, a.0, b.0), omega (arith, a.1, b.1));
-              apart = λ e. omega (arith, c.if_first_second.false);
+              apart = λ e. omega (arith, c.if-first-second.false);
             })
-            _ _ (omega arith) (omega arith) c.if_place_ge_MOST_PIPES.false ∣₁,
+            _ _ (omega arith) (omega arith) c.if-place-ge-MOST-PIPES.false ∣₁,
         tt,
       ),
     )
@@ -47,10 +47,10 @@ returns g c =
     let few : n.tables.pipes < length n.tables.ends = (let k = (kept n).places.0 in omega arith) in
     record {
       replied = (
-        lays n c.args.first c.args.second c.if_not_has_node.ensures c.if_not_has_node_2.ensures c.if_first_second.false (omega arith, omega arith),
+        lays n c.args.first c.args.second c.if-not-has-node.ensures c.if-not-has-node-2.ensures c.if-first-second.false (omega arith, omega arith),
         record {
           next_number = omega arith;
-          one_more = seen_laid n.tables.nodes n.tables.pipes n.tables.ends n.column.now (ends_for_all n) n.fits _ c.args.weight few c.if_place_self.false;
+          one_more = seen_laid n.tables.nodes n.tables.pipes n.tables.ends n.column.now (ends_for_all n) n.fits _ c.args.weight few c.if-place-self.false;
           rings_struck = refl;
           next_place = ap (λ k. set n.column.now k c.args.weight) (sym e);
         },

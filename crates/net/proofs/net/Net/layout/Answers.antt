@@ -6,8 +6,8 @@ use Rattle.net.proofs.net.Net.layout.Goals as goal
 pub shared_ref_as_front·result : goal.shared_ref_as_front·result
 shared_ref_as_front·result g c = let few = (kept c.args.self.now).few_pipes in omega arith
 
-pub invariant_of_result : goal.invariant_of_result
-invariant_of_result g c = (∣ laid c.args.self.now ∣₁, tt)
+pub invariant-of-result : goal.invariant-of-result
+invariant-of-result g c = (∣ laid c.args.self.now ∣₁, tt)
 
 pub returns : goal.returns
 returns g c = record { drawn = refl; weighed = sym (weights_seen c.args.self.now) }

@@ -5,8 +5,8 @@ use Rattle.net.proofs.Replies.{lifts}
 use Rattle.net.proofs.Views.{seen_lifted}
 use Rattle.net.proofs.net.Net.lift.Goals as goal
 
-pub invariant_of_self : goal.invariant_of_self
-invariant_of_self g c =
+pub invariant-of-self : goal.invariant-of-self
+invariant-of-self g c =
     let n = c.args.self.now in
     let fits = n.fits in
     (omega arith, (∣ no_more_pipes n.tables (kept n) _ _ (omega arith) (omega arith) ∣₁, tt))
@@ -16,7 +16,7 @@ returns g c =
     let n = c.args.self.now in
     record {
       replied = (
-        lifts n c.if_pipes_eq0.false,
+        lifts n c.if-pipes-eq0.false,
         record {
           highest_number = sym (pipes_seen n);
           one_less = seen_lifted n.tables.nodes n.tables.pipes n.tables.ends n.column.now (ends_for_all n) n.fits;

@@ -8,8 +8,8 @@ use Rattle.net.proofs.Kept.{kept, ends_are_nodes}
 use Rattle.net.proofs.Labelling.{own_counted}
 use Rattle.net.proofs.net.Net.parts.Goals as goal
 
-pub parts_requires : goal.parts_requires
-parts_requires g c = let few = (kept c.args.self.now).few_nodes in let nodes : c.nodes.result ≡ c.args.self.now.tables.nodes = c.nodes.ensures in omega arith
+pub parts-requires : goal.parts-requires
+parts-requires g c = let few = (kept c.args.self.now).few_nodes in let nodes : c.nodes.result ≡ c.args.self.now.tables.nodes = c.nodes.ensures in omega arith
 
 pub returns : goal.returns
 returns g c =

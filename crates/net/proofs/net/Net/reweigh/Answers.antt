@@ -1,5 +1,5 @@
 use Rattle.std.proofs.Common.{◌≡◌, ◌+◌, ◌-◌, refl, ap, ◌∙◌, arith}
-use Rattle.std.proofs.lemmas.List.{length_set}
+use Rattle.std.proofs.lemmas.List.{length-set}
 use Rattle.cycle_space.specs.Moments.{reweigh_pipe}
 use Rattle.net.specs.Views.{view}
 use Rattle.net.proofs.Kept.{kept, ends_for_all}
@@ -8,23 +8,23 @@ use Rattle.net.proofs.Replies.{counted, no_such_pipe, is_pipe}
 use Rattle.net.proofs.Views.{seen_reweighed}
 use Rattle.net.proofs.net.Net.reweigh.Goals as goal
 
-pub returns_then_not_has_pipe : goal.returns_then_not_has_pipe
-returns_then_not_has_pipe g c = record { replied = (no_such_pipe c.args.self.now c.args.pipe c.if_not_has_pipe.ensures, refl); lent = refl }
+pub returns-then-not-has-pipe : goal.returns-then-not-has-pipe
+returns-then-not-has-pipe g c = record { replied = (no_such_pipe c.args.self.now c.args.pipe c.if-not-has-pipe.ensures, refl); lent = refl }
 
-pub invariant_of_self : goal.invariant_of_self
-invariant_of_self g c =
+pub invariant-of-self : goal.invariant-of-self
+invariant-of-self g c =
     let n = c.args.self.now in
     let fits = n.fits in
-    (simp length_set (omega arith), (∣ no_more_pipes n.tables (kept n) _ _ (omega arith) (omega arith) ∣₁, tt))
+    (simp length-set (omega arith), (∣ no_more_pipes n.tables (kept n) _ _ (omega arith) (omega arith) ∣₁, tt))
 
 pub returns : goal.returns
 returns g c =
     let n = c.args.self.now in
-    let is = counted n.tables.pipes c.args.pipe c.if_not_has_pipe.ensures in
+    let is = counted n.tables.pipes c.args.pipe c.if-not-has-pipe.ensures in
     let same : c.args.pipe - 1 + 1 ≡ c.args.pipe = omega (arith, is.0) in
     record {
       replied = (
-        is_pipe n c.args.pipe c.if_not_has_pipe.ensures,
+        is_pipe n c.args.pipe c.if-not-has-pipe.ensures,
         record {
           other_weight = seen_reweighed n.tables.nodes n.tables.pipes n.tables.ends n.column.now (ends_for_all n) n.fits (c.args.pipe - 1) c.args.weight
               ∙ ap (λ j. reweigh_pipe (view n) j c.args.weight) same;

@@ -1,17 +1,17 @@
 use Rattle.std.proofs.Common.{◌-◌, get_or, sym, ap, ◌∙◌, arith}
-use Rattle.std.proofs.lemmas.List.{get_or_take}
+use Rattle.std.proofs.lemmas.List.{get_or-take}
 use Rattle.net.proofs.Kept.{weights_seen}
 use Rattle.net.proofs.Replies.{counted, no_such_pipe, is_pipe}
 use Rattle.net.proofs.net.Net.weight.Goals as goal
 
-pub returns_then_not_has_pipe : goal.returns_then_not_has_pipe
-returns_then_not_has_pipe g c = no_such_pipe c.args.self.now c.args.pipe c.if_not_has_pipe.ensures
+pub returns-then-not-has-pipe : goal.returns-then-not-has-pipe
+returns-then-not-has-pipe g c = no_such_pipe c.args.self.now c.args.pipe c.if-not-has-pipe.ensures
 
 pub returns : goal.returns
 returns g c =
     let n = c.args.self.now in
-    let is = counted n.tables.pipes c.args.pipe c.if_not_has_pipe.ensures in (
-      is_pipe n c.args.pipe c.if_not_has_pipe.ensures,
-      c.index_weights_pipe.is ∙ sym (ap (λ ws. get_or ws (c.args.pipe - 1) c.index_weights_pipe.result) (weights_seen n)
-          ∙ get_or_take n.tables.pipes n.column.now (c.args.pipe - 1) c.index_weights_pipe.result (omega (arith, is.0, is.1))),
+    let is = counted n.tables.pipes c.args.pipe c.if-not-has-pipe.ensures in (
+      is_pipe n c.args.pipe c.if-not-has-pipe.ensures,
+      c.index-weights-pipe.is ∙ sym (ap (λ ws. get_or ws (c.args.pipe - 1) c.index-weights-pipe.result) (weights_seen n)
+          ∙ get_or-take n.tables.pipes n.column.now (c.args.pipe - 1) c.index-weights-pipe.result (omega (arith, is.0, is.1))),
     )

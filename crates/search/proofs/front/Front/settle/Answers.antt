@@ -3,8 +3,8 @@ use Rattle.search.specs.Tasks.{task}
 use Rattle.search.proofs.Turns.{turn_begins, turn_ends}
 use Rattle.search.proofs.front.Front.settle.Goals as goal
 
-pub spread_requires : goal.spread_requires
-spread_requires g c =
+pub spread-requires : goal.spread-requires
+spread-requires g c =
     let m = g.M.Measure in
     let t = task m.zero m.join m.within c.args.hunt.now in
     record {

@@ -3,8 +3,8 @@ use Rattle.search.proofs.Hunting.{first_in, second_in, from_first, from_second, 
 use Rattle.search.proofs.Laying.{pipes_seen}
 use Rattle.search.proofs.hunt.Hunt.across.Goals as goal
 
-pub arrival_requires : goal.arrival_requires
-arrival_requires g c =
+pub arrival-requires : goal.arrival-requires
+arrival-requires g c =
     let m = g.M.Measure in
     let few = c.requires.sound.net.few_nodes in
     let pipes = c.requires.sound.net.few_pipes in
@@ -14,8 +14,8 @@ arrival_requires g c =
     let high = in_net.1 in
     (low, (omega arith, omega arith))
 
-pub arrival_requires_then_ends_node_2 : goal.arrival_requires_then_ends_node_2
-arrival_requires_then_ends_node_2 g c =
+pub arrival-requires-then-ends-node-2 : goal.arrival-requires-then-ends-node-2
+arrival-requires-then-ends-node-2 g c =
     let m = g.M.Measure in
     let few = c.requires.sound.net.few_nodes in
     let pipes = c.requires.sound.net.few_pipes in
@@ -25,23 +25,23 @@ arrival_requires_then_ends_node_2 g c =
     let high = in_net.1 in
     (low, (omega arith, omega arith))
 
-pub returns_then_ends_node : goal.returns_then_ends_node
-returns_then_ends_node g c =
+pub returns-then-ends-node : goal.returns-then-ends-node
+returns-then-ends-node g c =
     let m = g.M.Measure in
-    let r = from_first m.zero m.join m.within c.args.self.now c.requires.sound c.args.place c.requires.laid c.args.u _ c.arrival.ensures c.if_ends_node.true in
+    let r = from_first m.zero m.join m.within c.args.self.now c.requires.sound c.args.place c.requires.laid c.args.u _ c.arrival.ensures c.if-ends-node.true in
     record { leads = r.0; inside = r.1 }
 
-pub returns_then_ends_node_2 : goal.returns_then_ends_node_2
-returns_then_ends_node_2 g c =
+pub returns-then-ends-node-2 : goal.returns-then-ends-node-2
+returns-then-ends-node-2 g c =
     let m = g.M.Measure in
     let r = from_second m.zero m.join m.within c.args.self.now c.requires.sound c.args.place c.requires.laid c.args.u _
-    c.arrival_then_ends_node_2.ensures c.if_ends_node.false c.if_ends_node_2.true in
+    c.arrival-then-ends-node-2.ensures c.if-ends-node.false c.if-ends-node-2.true in
     record { leads = r.0; inside = r.1 }
 
-pub returns_else_ends_node_2 : goal.returns_else_ends_node_2
-returns_else_ends_node_2 g c =
+pub returns-else-ends-node-2 : goal.returns-else-ends-node-2
+returns-else-ends-node-2 g c =
     let m = g.M.Measure in
     record {
-      leads = from_neither m.zero m.join m.within c.args.self.now c.requires.sound c.args.place c.requires.laid c.args.u c.if_ends_node.false c.if_ends_node_2.false;
+      leads = from_neither m.zero m.join m.within c.args.self.now c.requires.sound c.args.place c.requires.laid c.args.u c.if-ends-node.false c.if-ends-node-2.false;
       inside = tt;
     }

@@ -4,8 +4,8 @@ use Rattle.measures.proofs.OfNumbers.{made}
 use Rattle.measures.specs.Same.{same_grade}
 use Rattle.measures.proofs.grades.measured.GradeFileMeasure.of_number.Goals as goal
 
-pub returns_then_number_le_GREATEST : goal.returns_then_number_le_GREATEST
-returns_then_number_le_GREATEST c = record {
+pub returns-then-number-le-GREATEST : goal.returns-then-number-le-GREATEST
+returns-then-number-le-GREATEST c = record {
   meant = made topped 255 c.args.number (omega arith) (same_grade _ _ (omega arith));
   itself = refl;
 }

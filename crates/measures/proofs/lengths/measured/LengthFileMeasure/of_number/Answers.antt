@@ -4,8 +4,8 @@ use Rattle.measures.proofs.OfNumbers.{made}
 use Rattle.measures.specs.Same.{same_length}
 use Rattle.measures.proofs.lengths.measured.LengthFileMeasure.of_number.Goals as goal
 
-pub returns_then_number_le_GREATEST : goal.returns_then_number_le_GREATEST
-returns_then_number_le_GREATEST c = record {
+pub returns-then-number-le-GREATEST : goal.returns-then-number-le-GREATEST
+returns-then-number-le-GREATEST c = record {
   meant = made capped 1000000000 c.args.number (omega arith) (same_length _ _ (omega arith));
   itself = refl;
 }
