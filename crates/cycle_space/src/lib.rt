@@ -1,4 +1,6 @@
 // The cycle space of a net's shape: rows of pipes with their sum and parity, and the theorems on parts, labels and the due number.
+#![tactic(auto)]
+
 mod ends;
 mod rows;
 mod theorems;

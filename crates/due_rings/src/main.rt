@@ -1,4 +1,6 @@
 // Lays a small heating net, pipe by pipe, and says how many rings are due.
+#![tactic(auto)]
+
 use measures::Length;
 use net::{Net, Refusal};
 

@@ -1,4 +1,6 @@
 // Finds the light rings of a small heating net, as light as they can be, and says what they are.
+#![tactic(auto)]
+
 use measures::Length;
 use net::{Net, NoRow, Refusal, has};
 

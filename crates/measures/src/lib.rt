@@ -1,4 +1,6 @@
 // Measures: values that are joined and weighed, with the laws that each kind of them keeps.
+#![tactic(auto)]
+
 mod grades;
 mod lengths;
 mod measure;

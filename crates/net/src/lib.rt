@@ -1,4 +1,6 @@
 // A net of pipes over the caller's column of weights: work on it, questions about it, and its light rings one by one.
+#![tactic(auto)]
+
 mod labels;
 mod net;
 mod next;

@@ -1,4 +1,6 @@
 // The search for the lightest closed set of pipes that is odd against a given set.
+#![tactic(auto)]
+
 mod front;
 mod hunt;
 mod layout;

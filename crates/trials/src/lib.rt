@@ -1,4 +1,6 @@
 // Trials of the net: an example for each refusal, the limits, and small nets with known parts, due numbers and rings, rows, and a caller.
+#![tactic(auto)]
+
 mod columns;
 #[cfg(test)]
 mod nets;
