@@ -18,7 +18,7 @@ pub(crate) struct Front {
 // The nearer of the state best, if there is one, and the state k.
 fn nearer<M: Measure>(dist: &[M], best: Option<usize>, k: usize) -> usize
     requires { (k < length dist.now) × (Inside (length dist.now) best) }
-    ensures { Nearer zero within dist.now best k result }
+    ensures { Nearer M.zero M.within dist.now best k result }
 {
     match best {
         None => k,
@@ -30,7 +30,7 @@ impl Front {
     // The nearest of the states that are reached and not settled.
     pub(crate) fn nearest_open<M: Measure>(&self, dist: &[M], states: usize) -> Option<usize>
         requires { (states ≤ 128) × (states ≤ length dist.now) }
-        ensures { Picked zero within dist.now self.now.reached self.now.settled states result }
+        ensures { Picked M.zero M.within dist.now self.now.reached self.now.settled states result }
     {
         let mut best = None;
         for k in 0..states {
@@ -44,7 +44,7 @@ impl Front {
     // Whether the state v is open to the distance reach: it is not settled, and not reached at that distance or a smaller one.
     fn improves<M: Measure>(&self, dist: &[M], v: usize, reach: M) -> bool
         requires { (v < 128) × (v < length dist.now) }
-        ensures { result ≡ better zero within self.now.settled self.now.reached dist.now v reach }
+        ensures { result ≡ better M.zero M.within self.now.settled self.now.reached dist.now v reach }
     {
         if self.settled[v] {
             false
@@ -76,7 +76,7 @@ impl Front {
         w: M,
     )
         requires { (u < 128) × ((v < 128) × ((v < length dist.old) × ((u < length dist.old) × (place < 256)))) }
-        ensures { Relaxed zero join within self.old dist.old u v place w self.new dist.new }
+        ensures { Relaxed M.zero M.join M.within self.old dist.old u v place w self.new dist.new }
     {
         let reach = dist[u].join(w);
         if self.improves(dist, v, reach) {

@@ -32,9 +32,9 @@ impl<M: Measure> Hunt<'_, M> {
 
     // The state on the other side of the pipe at the place from the state u, if the pipe lies at u's node.
     pub(crate) fn across(&self, u: usize, place: usize) -> Option<usize>
-        requires sound { Sound (task zero join within self.now) }
+        requires sound { Sound (task M.zero M.join M.within self.now) }
         requires laid { place < length self.now.ends.now }
-        ensures leads { result ≡ arc (task zero join within self.now) u place }
+        ensures leads { result ≡ arc (task M.zero M.join M.within self.now) u place }
         ensures inside { Inside (2 * self.now.nodes) result }
     {
         let node = u / 2 + 1;

@@ -23,7 +23,7 @@ pub(crate) struct Candidate<M> {
 
 // Whether a pipe of the support is drawn from the node.
 fn starts<M: Measure>(net: &Layout<M>, support: [u64; 4], node: usize) -> bool
-    ensures { result ≡ false → Start (from_node zero join within net.now support node) node → ⊥ }
+    ensures { result ≡ false → Start (from_node M.zero M.join M.within net.now support node) node → ⊥ }
 {
     for (place, ends) in net.ends.iter().enumerate() {
         if ends.first == node && has(support, place + 1) {
@@ -40,10 +40,10 @@ fn closed_through<M: Measure>(
     s: usize,
     dist: &mut [M],
 ) -> Option<Candidate<M>>
-    requires order { KeepsOrder join within }
+    requires order { KeepsOrder M.join M.within }
     requires room { 2 * net.now.nodes ≤ length dist.old }
     requires inside { (1 ≤ s) × (s ≤ net.now.nodes) }
-    ensures { ClosedThrough (from_node zero join within net.now support s) result }
+    ensures { ClosedThrough (from_node M.zero M.join M.within net.now support s) result }
 {
     let hunt = Hunt {
         nodes: net.nodes,
@@ -66,7 +66,7 @@ fn closed_through<M: Measure>(
 
 // The lighter of two.
 fn lighter_of<M: Measure>(a: Option<Candidate<M>>, b: Option<Candidate<M>>) -> Option<Candidate<M>>
-    ensures { result ≡ choose within a b }
+    ensures { result ≡ choose M.within a b }
 {
     match (a, b) {
         (None, b) => b,
@@ -87,9 +87,9 @@ fn lightest_of_starts<M: Measure>(
     support: [u64; 4],
     dist: &mut [M],
 ) -> Option<Candidate<M>>
-    requires order { KeepsOrder join within }
+    requires order { KeepsOrder M.join M.within }
     requires room { 2 * net.now.nodes ≤ length dist.old }
-    ensures { Lightest (from_node zero join within net.now support 1) result }
+    ensures { Lightest (from_node M.zero M.join M.within net.now support 1) result }
 {
     let mut best = None;
     for s in 1..net.nodes + 1 {
@@ -107,7 +107,7 @@ pub fn lightest_odd<M: Measure>(
     support: [u64; 4],
     scratch: &mut [M],
 ) -> Result<Option<[u64; 4]>, ScratchTooShort>
-    ensures { Sought zero join within net.now support scratch.old result scratch.new }
+    ensures { Sought M.zero M.join M.within net.now support scratch.old result scratch.new }
 {
     if scratch.len() < 2 * net.nodes {
         return Err(ScratchTooShort {});

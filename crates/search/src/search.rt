@@ -13,10 +13,10 @@ use measures::Measure;
 impl Front {
     // The front before the first turn: the start is reached, and nothing else.
     fn at_start<M: Measure>(hunt: &Hunt<M>, dist: &mut [M]) -> Front
-        requires order { KeepsOrder join within }
-        requires sound { Sound (task zero join within hunt.now) }
+        requires order { KeepsOrder M.join M.within }
+        requires sound { Sound (task M.zero M.join M.within hunt.now) }
         requires room { 2 * hunt.now.nodes ≤ length dist.old }
-        ensures { Searching (task zero join within hunt.now) result dist.new }
+        ensures { Searching (task M.zero M.join M.within hunt.now) result dist.new }
     {
         let s = 2 * (hunt.start - 1);
         dist[s] = M::zero();
@@ -32,12 +32,12 @@ impl Front {
 
     // Relaxes every pipe at the node of the state u, which has just been settled.
     fn spread<M: Measure>(&mut self, hunt: &Hunt<M>, dist: &mut [M], u: usize)
-        requires order { KeepsOrder join within }
-        requires sound { Sound (task zero join within hunt.now) }
+        requires order { KeepsOrder M.join M.within }
+        requires sound { Sound (task M.zero M.join M.within hunt.now) }
         requires inside { u < 2 * hunt.now.nodes }
-        requires settling { Settling (task zero join within hunt.now) u 0 self.old dist.old }
+        requires settling { Settling (task M.zero M.join M.within hunt.now) u 0 self.old dist.old }
         ensures same { self.new.settled ≡ self.old.settled }
-        ensures settling { Settling (task zero join within hunt.now) u (length hunt.now.weights.now) self.new dist.new }
+        ensures settling { Settling (task M.zero M.join M.within hunt.now) u (length hunt.now.weights.now) self.new dist.new }
     {
         let weights: &[M] = hunt.weights;
         for j in 0..weights.len() {
@@ -49,12 +49,12 @@ impl Front {
 
     // Settles u, the nearest of the open states.
     fn settle<M: Measure>(&mut self, hunt: &Hunt<M>, dist: &mut [M], u: usize)
-        requires order { KeepsOrder join within }
-        requires sound { Sound (task zero join within hunt.now) }
-        requires searching { Searching (task zero join within hunt.now) self.old dist.old }
-        requires nearest { Nearest zero within dist.old self.old.reached self.old.settled (2 * hunt.now.nodes) u }
+        requires order { KeepsOrder M.join M.within }
+        requires sound { Sound (task M.zero M.join M.within hunt.now) }
+        requires searching { Searching (task M.zero M.join M.within hunt.now) self.old dist.old }
+        requires nearest { Nearest M.zero M.within dist.old self.old.reached self.old.settled (2 * hunt.now.nodes) u }
         ensures marks { self.new.settled ≡ slice_set self.old.settled u true }
-        ensures searching { Searching (task zero join within hunt.now) self.new dist.new }
+        ensures searching { Searching (task M.zero M.join M.within hunt.now) self.new dist.new }
     {
         self.settled[u] = true;
         self.spread(hunt, dist, u);
@@ -63,10 +63,10 @@ impl Front {
 
 // Searches until every reached state is settled.
 pub(crate) fn search<M: Measure>(hunt: &Hunt<M>, dist: &mut [M]) -> Front
-    requires order { KeepsOrder join within }
-    requires sound { Sound (task zero join within hunt.now) }
+    requires order { KeepsOrder M.join M.within }
+    requires sound { Sound (task M.zero M.join M.within hunt.now) }
     requires room { 2 * hunt.now.nodes ≤ length dist.old }
-    ensures { Shortest (task zero join within hunt.now) result dist.new }
+    ensures { Shortest (task M.zero M.join M.within hunt.now) result dist.new }
 {
     let mut front = Front::at_start(hunt, dist);
     while let Some(u) = front.nearest_open(dist, 2 * hunt.nodes) {

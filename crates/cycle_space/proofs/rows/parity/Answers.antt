@@ -5,8 +5,8 @@ use Rattle.cycle_space.proofs.rows.parity.Goals as goal
 
 pub returns : goal.returns
 returns c =
-    let f0 = and_lt 64 _ _ c.element-fits.ranges c.element-fits2.ranges in
-    let f1 = and_lt 64 _ _ c.element-fits3.ranges c.element-fits4.ranges in
-    let f2 = and_lt 64 _ _ c.element-fits5.ranges c.element-fits6.ranges in
-    let f3 = and_lt 64 _ _ c.element-fits7.ranges c.element-fits8.ranges in
+    let f0 = and_lt 64 _ _ c.element_fits.fits c.element_fits2.fits in
+    let f1 = and_lt 64 _ _ c.element_fits3.fits c.element_fits4.fits in
+    let f2 = and_lt 64 _ _ c.element_fits5.fits c.element_fits6.fits in
+    let f3 = and_lt 64 _ _ c.element_fits7.fits c.element_fits8.fits in
     odd_of_four c.args.x c.args.y (xor_lt 64 _ _ (xor_lt 64 _ _ (xor_lt 64 _ _ f0 f1) f2) f3)

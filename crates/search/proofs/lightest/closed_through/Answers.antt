@@ -21,8 +21,8 @@ bounds-front-at g c = let few = (laid c.args.net.now).few_nodes in let high = c.
 pub bounds-front-at-then-front-at : goal.bounds-front-at-then-front-at
 bounds-front-at-then-front-at g c = let few = (laid c.args.net.now).few_nodes in let high = c.requires.inside.1 in omega arith
 
-pub offset-bounds-front-at : goal.offset-bounds-front-at
-offset-bounds-front-at g c = let few = (laid c.args.net.now).few_nodes in let high = c.requires.inside.1 in omega arith
+pub offset_bounds-front-at : goal.offset_bounds-front-at
+offset_bounds-front-at g c = let few = (laid c.args.net.now).few_nodes in let high = c.requires.inside.1 in omega arith
 
 pub returns-then-front-at : goal.returns-then-front-at
 returns-then-front-at g c =

@@ -21,7 +21,7 @@ loop-s-preserved g c =
     let t = from_node m.zero m.join m.within c.args.net.now c.args.support 1 in
     let laws : Lawful t = record { ceiling = m.ceiling; base = g.met.M.Measure.lawful; order = c.requires.order } in
     elim c.if-starts.branch [
-      | then-starts w ↦ rw (w.best-is, w.lighter-of-best.ensures) (least_more t laws c.loop-s.s _ _ c.loop-s.invariant w.closed-through-here.ensures)
+      | then-starts w ↦ rw (w.best-is, w.lighter_of-best.ensures) (least_more t laws c.loop-s.s _ _ c.loop-s.invariant w.closed_through-here.ensures)
       | else-starts w ↦ rw w.best-is (least_skip t c.loop-s.s _ c.loop-s.invariant (c.starts.ensures w.if-starts.false))
     ]
 

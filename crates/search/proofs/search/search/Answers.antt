@@ -16,4 +16,4 @@ pub returns : goal.returns
 returns g c =
     let m = g.M.Measure in
     let t = task m.zero m.join m.within c.args.hunt.now in
-    finished t (record { ceiling = m.ceiling; base = g.met.M.Measure.lawful; order = c.requires.order }) c.loop-u.front c.loop-u.dist c.loop-u.invariant c.in-default.ensures
+    finished t (record { ceiling = m.ceiling; base = g.met.M.Measure.lawful; order = c.requires.order }) c.loop-u.front c.loop-u.dist c.loop-u.invariant c.in_default.ensures

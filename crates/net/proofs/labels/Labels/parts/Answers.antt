@@ -7,8 +7,8 @@ use Rattle.net.proofs.labels.Labels.parts.Goals.{then-self-v, else-self-v}
 pub loop-v-init : goal.loop-v-init
 loop-v-init c = sym (own_none c.args.self.now)
 
-pub overflow-add-parts : goal.overflow-add-parts
-overflow-add-parts c =
+pub overflow_add-parts : goal.overflow_add-parts
+overflow_add-parts c =
     let few = own_few c.args.self.now (c.loop-v.v - 1) in
     let inv : c.loop-v.parts ≡ own_labels c.args.self.now (c.loop-v.v - 1) = c.loop-v.invariant in
     omega arith

@@ -16,8 +16,8 @@ use Rattle.net.proofs.net.Net.closing_pipes.Goals.{then-joined, else-joined}
 pub loop-j-init : goal.loop-j-init
 loop-j-init g c = begun_none (shape (view c.args.self.now)) c.own_labels.result _ refl c.own_labels.ensures
 
-pub offset-bounds-self-j : goal.offset-bounds-self-j
-offset-bounds-self-j g c = let few = (kept c.args.self.now).few_pipes in omega arith
+pub offset_bounds-self-j : goal.offset_bounds-self-j
+offset_bounds-self-j g c = let few = (kept c.args.self.now).few_pipes in omega arith
 
 pub bounds-self-j : goal.bounds-self-j
 bounds-self-j g c = let few = (kept c.args.self.now).few_pipes in omega arith
@@ -25,8 +25,8 @@ bounds-self-j g c = let few = (kept c.args.self.now).few_pipes in omega arith
 pub joined-requires : goal.joined-requires
 joined-requires g c = ends_small c.args.self.now c.loop-j.j c.loop-j-test.true
 
-pub offset-bounds-of-closing : goal.offset-bounds-of-closing
-offset-bounds-of-closing g c =
+pub offset_bounds-of-closing : goal.offset_bounds-of-closing
+offset_bounds-of-closing g c =
     let few = (kept c.args.self.now).few_pipes in
     let most = begun_few _ _ _ _ _ c.loop-j.invariant in
     omega arith
@@ -37,8 +37,8 @@ bounds-of-closing g c =
     let most = begun_few _ _ _ _ _ c.loop-j.invariant in
     omega arith
 
-pub overflow-add-closing : goal.overflow-add-closing
-overflow-add-closing g c =
+pub overflow_add-closing : goal.overflow_add-closing
+overflow_add-closing g c =
     let few = (kept c.args.self.now).few_pipes in
     let most = begun_few _ _ _ _ _ c.loop-j.invariant in
     omega arith

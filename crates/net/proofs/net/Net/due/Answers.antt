@@ -6,8 +6,8 @@ use Rattle.net.specs.Views.{view}
 use Rattle.net.proofs.Kept.{kept, ends_are_nodes, shape_pipes, pipes_seen}
 use Rattle.net.proofs.net.Net.due.Goals as goal
 
-pub overflow-add-result : goal.overflow-add-result
-overflow-add-result g c =
+pub overflow_add-result : goal.overflow_add-result
+overflow_add-result g c =
     let n = c.args.self.now in
     let few = (kept n).few_nodes in
     let most = (kept n).few_pipes in
@@ -15,8 +15,8 @@ overflow-add-result g c =
     let parts = parts_few (shape (view n)) (ends_are_nodes n) c.parts.result c.parts.ensures in
     omega arith
 
-pub overflow-sub-result : goal.overflow-sub-result
-overflow-sub-result g c =
+pub overflow_sub-result : goal.overflow_sub-result
+overflow_sub-result g c =
     let n = c.args.self.now in
     let nodes : c.nodes.result ≡ n.tables.nodes = c.nodes.ensures in
     let pipes : c.pipes.result ≡ n.tables.pipes = c.pipes.ensures ∙ pipes_seen n in

@@ -6,8 +6,8 @@ use Rattle.net.proofs.net.Net.ends.Goals as goal
 pub returns-then-not-has-pipe : goal.returns-then-not-has-pipe
 returns-then-not-has-pipe g c = no_such_pipe c.args.self.now c.args.pipe c.if-not-has-pipe.ensures
 
-pub offset-bounds-self-pipe : goal.offset-bounds-self-pipe
-offset-bounds-self-pipe g c =
+pub offset_bounds-self-pipe : goal.offset_bounds-self-pipe
+offset_bounds-self-pipe g c =
     let few = (kept c.args.self.now).few_pipes in
     let is = (counted c.args.self.now.tables.pipes c.args.pipe c.if-not-has-pipe.ensures).1 in
     omega arith

@@ -9,8 +9,8 @@ use Rattle.net.proofs.net.Net.joined_weight.Goals as goal
 pub loop-i-init : goal.loop-i-init
 loop-i-init g c = joined_none g.met.M.Measure.lawful (view c.args.self.now) (rings c.args.self.now) _ c.zero-joined.ensures
 
-pub offset-bounds-self-i : goal.offset-bounds-self-i
-offset-bounds-self-i g c = let few = rings_few c.args.self.now in omega arith
+pub offset_bounds-self-i : goal.offset_bounds-self-i
+offset_bounds-self-i g c = let few = rings_few c.args.self.now in omega arith
 
 pub bounds-self-i : goal.bounds-self-i
 bounds-self-i g c = let few = rings_few c.args.self.now in omega arith

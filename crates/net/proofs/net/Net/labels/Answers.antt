@@ -6,8 +6,8 @@ use Rattle.net.proofs.Kept.{kept, ends_small, first_seen, second_seen, shape_pip
 use Rattle.net.proofs.Labelling.{label_next}
 use Rattle.net.proofs.net.Net.labels.Goals as goal
 
-pub offset-bounds-self-j : goal.offset-bounds-self-j
-offset-bounds-self-j g c = let few = (kept c.args.self.now).few_pipes in omega arith
+pub offset_bounds-self-j : goal.offset_bounds-self-j
+offset_bounds-self-j g c = let few = (kept c.args.self.now).few_pipes in omega arith
 
 pub bounds-self-j : goal.bounds-self-j
 bounds-self-j g c = let few = (kept c.args.self.now).few_pipes in omega arith

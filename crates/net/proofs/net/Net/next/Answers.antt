@@ -18,8 +18,8 @@ returns-then-is-complete g c =
       lent = refl;
     }
 
-pub offset-bounds-supports-found : goal.offset-bounds-supports-found
-offset-bounds-supports-found g c =
+pub offset_bounds-supports-found : goal.offset_bounds-supports-found
+offset_bounds-supports-found g c =
     let room = still_room c.args.self.now (not_so_when c.is_complete.result c.is_complete.ensures c.if-is-complete.false) in
     omega arith
 
@@ -46,8 +46,8 @@ returns-in-err-ring g c =
       lent = refl;
     }
 
-pub returns-in-default : goal.returns-in-default
-returns-in-default g c =
+pub returns-in_default : goal.returns-in_default
+returns-in_default g c =
     let n = c.args.self.now in
     let m = g.M.Measure in
     let room : n.tables.found < 256 = still_room n (not_so_when c.is_complete.result c.is_complete.ensures c.if-is-complete.false) in
@@ -55,7 +55,7 @@ returns-in-default g c =
     let long : length rows ≡ 256 = search rules in
     let same : (get_or rows n.tables.found blank).words ≡ supports_of n.tables n.tables.found = read_row rows n.tables.found (omega arith) ∙ c.supports-supports.ensures n.tables.found in
     let nothing : Found m.zero m.join m.within c.layout.result (get_or rows n.tables.found blank).words None =
-    subst (Found m.zero m.join m.within c.layout.result (get_or rows n.tables.found blank).words) c.in-default.is c.in-ok-ring.ensures.1 in
+    subst (Found m.zero m.join m.within c.layout.result (get_or rows n.tables.found blank).words) c.in_default.is c.in-ok-ring.ensures.1 in
     absurd (some_ring n (not_so_when c.is_complete.result c.is_complete.ensures c.if-is-complete.false)
     (subst₂ (λ N s. (x : Row) → Closed N x → odd x s ≡ true → ⊥) c.layout.ensures.drawn same nothing))
 
@@ -64,8 +64,8 @@ turn-requires g c =
     let room = still_room c.args.self.now (not_so_when c.is_complete.result c.is_complete.ensures c.if-is-complete.false) in
     omega arith
 
-pub offset-bounds-self-found : goal.offset-bounds-self-found
-offset-bounds-self-found g c =
+pub offset_bounds-self-found : goal.offset_bounds-self-found
+offset_bounds-self-found g c =
     let room = still_room c.args.self.now (not_so_when c.is_complete.result c.is_complete.ensures c.if-is-complete.false) in
     omega arith
 
@@ -74,8 +74,8 @@ bounds-self-found g c =
     let room = still_room c.args.self.now (not_so_when c.is_complete.result c.is_complete.ensures c.if-is-complete.false) in
     omega arith
 
-pub overflow-add-self : goal.overflow-add-self
-overflow-add-self g c =
+pub overflow_add-self : goal.overflow_add-self
+overflow_add-self g c =
     let room = still_room c.args.self.now (not_so_when c.is_complete.result c.is_complete.ensures c.if-is-complete.false) in
     omega arith
 
@@ -97,8 +97,8 @@ invariant-of-self g c =
       ),
     )
 
-pub overflow-add-result : goal.overflow-add-result
-overflow-add-result g c =
+pub overflow_add-result : goal.overflow_add-result
+overflow_add-result g c =
     let room = still_room c.args.self.now (not_so_when c.is_complete.result c.is_complete.ensures c.if-is-complete.false) in
     omega arith
 

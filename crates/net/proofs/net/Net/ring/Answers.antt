@@ -5,8 +5,8 @@ use Rattle.net.proofs.net.Net.ring.Goals as goal
 pub returns-then-not-has-ring : goal.returns-then-not-has-ring
 returns-then-not-has-ring g c = (no_such_ring c.args.self.now c.args.ring c.if-not-has-ring.ensures, refl)
 
-pub offset-bounds-self-ring : goal.offset-bounds-self-ring
-offset-bounds-self-ring g c = let l = (ring_place c.args.self.now c.args.ring c.if-not-has-ring.ensures).1 in omega arith
+pub offset_bounds-self-ring : goal.offset_bounds-self-ring
+offset_bounds-self-ring g c = let l = (ring_place c.args.self.now c.args.ring c.if-not-has-ring.ensures).1 in omega arith
 
 pub bounds-self-ring : goal.bounds-self-ring
 bounds-self-ring g c = (ring_place c.args.self.now c.args.ring c.if-not-has-ring.ensures).1

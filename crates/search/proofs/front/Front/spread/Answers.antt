@@ -6,7 +6,7 @@ use Rattle.search.proofs.Laying.{pipes_seen}
 use Rattle.search.proofs.Measuring.{Lawful}
 use Rattle.search.proofs.Relaxing.{relaxed_on, passed_on}
 use Rattle.search.proofs.front.Front.spread.Goals as goal
-use Rattle.search.proofs.front.Front.spread.Goals.{in-Some, in-default}
+use Rattle.search.proofs.front.Front.spread.Goals.{in-Some, in_default}
 
 pub across-requires : goal.across-requires
 across-requires g c =
@@ -38,10 +38,10 @@ loop-j-preserved g c =
           let small : v < 2 * t.shape.nodes = w.in-Some.ensures.inside in
           let fits : v < 128 = omega arith in
           let read = get_or_read t.weights c.loop-j.j w.index-weights-j.result c.loop-j-test.true w.index-weights-j.is t.none in
-          rw (w.self-is, w.dist_is) (
+          rw (w.self-is, w.dist-is) (
             w.relax.ensures.settled_is ∙ c.loop-j.invariant.0,
             relaxed_on t laws (stepping t laws c.requires.sound) c.args.u v c.loop-j.j _ _ _ _ c.loop-j.invariant.1 here (sym w.in-Some.ensures.leads) small fits _ read w.relax.ensures,
           )
-      | in-default w ↦
-          rw (w.self-is, w.dist_is) (c.loop-j.invariant.0, passed_on t _ _ _ _ c.loop-j.invariant.1 (sym w.in-default.ensures.leads))
+      | in_default w ↦
+          rw (w.self-is, w.dist-is) (c.loop-j.invariant.0, passed_on t _ _ _ _ c.loop-j.invariant.1 (sym w.in_default.ensures.leads))
     ]
