@@ -36,7 +36,7 @@ impl<'a, M: Measure> Net<'a, M> {
 
     // Finds the next ring, in scratch of at least twice as many values as there are nodes; answers its number.
     pub fn next(&mut self, scratch: &mut [M]) -> Result<usize, Refusal>
-        ensures replied { FindsNext zero join within self.old scratch.old result self.new scratch.new }
+        ensures replied { FindsNext M.zero M.join M.within self.old scratch.old result self.new scratch.new }
         ensures lent { self.new.column.ghost_name ≡ self.old.column.ghost_name }
     {
         if self.is_complete() {

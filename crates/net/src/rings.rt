@@ -1,7 +1,7 @@
 // Questions about the rings found.
 ghost use Rattle.std.specs.Prelude.{◌≡◌};
 ghost use Rattle.cycle_space.specs.Rivals.{joined_weight};
-ghost use Rattle.cycle_space.specs.Moments.{weight as set-weight};
+ghost use Rattle.cycle_space.specs.Moments.{weight as set_weight};
 ghost use Rattle.net.specs.Views.{view, rings, support as support-of};
 ghost use Rattle.net.specs.Calls.{ring_row, TellsRow, TellsRingWeight};
 
@@ -38,7 +38,7 @@ impl<'a, M: Measure> Net<'a, M> {
 
     // The weight of a set of the net's pipes.
     fn weighed(&self, row: [u64; 4]) -> M
-        ensures { result ≡ set-weight M.Measure.zero M.Measure.join (view self.now) row }
+        ensures { result ≡ set_weight M.Measure.zero M.Measure.join (view self.now) row }
     {
         let weights: &[M] = self.column;
         weight_of(&weights[..self.tables.pipes], row)

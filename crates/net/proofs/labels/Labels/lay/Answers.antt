@@ -21,8 +21,8 @@ loop-label-preserved c =
     let same : get_or items i 0 ≡ get_or start i 0 = inv.left i (omega arith) in
     subst (λ xs. Swept 0 65 start new xs (i + 1))
     (elim c.if-label-high.branch [
-      | then-label-high w ↦ ap (set items i) (lowered_high high low (get_or start i 0) (sym same ∙ w.if-label-high.true)) ∙ sym w.label·items-is
-      | else-label-high w ↦ ap (set items i) (lowered_other high low (get_or start i 0) (λ e. w.if-label-high.false (same ∙ e)) ∙ sym same) ∙ sym w.label·items-is
+      | then-label-high w ↦ ap (set items i) (lowered_high high low (get_or start i 0) (sym same ∙ w.if-label-high.true)) ∙ sym w.label-items-is
+      | else-label-high w ↦ ap (set items i) (lowered_other high low (get_or start i 0) (λ e. w.if-label-high.false (same ∙ e)) ∙ sym same) ∙ sym w.label-items-is
     ])
     (swept_write 0 65 start new items i inv c.loop-label-test.true)
 

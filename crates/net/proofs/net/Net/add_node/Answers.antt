@@ -4,15 +4,15 @@ use Rattle.net.proofs.Keeping.{nodes_added, supports_remain}
 use Rattle.net.proofs.Replies.{nodes_full, adds}
 use Rattle.net.proofs.net.Net.add_node.Goals as goal
 
-pub returns-then-nodes-ge-MOST-NODES : goal.returns-then-nodes-ge-MOST-NODES
-returns-then-nodes-ge-MOST-NODES g c =
+pub returns-then-nodes-ge-MOST_NODES : goal.returns-then-nodes-ge-MOST_NODES
+returns-then-nodes-ge-MOST_NODES g c =
     let few = (kept c.args.self.now).few_nodes in
     record { replied = (nodes_full c.args.self.now (omega arith), refl); lent = refl }
 
-pub invariant-of-self : goal.invariant-of-self
-invariant-of-self g c =
+pub invariant_of-self : goal.invariant_of-self
+invariant_of-self g c =
     let n = c.args.self.now in
-    (tt, (n.fits, (∣ nodes_added n.tables (kept n) _ (omega arith) (omega arith) ∣₁, tt)))
+    record { fits = n.fits; keeps = ∣ nodes_added n.tables (kept n) _ (omega arith) (omega arith) ∣₁ }
 
 pub returns : goal.returns
 returns g c =

@@ -14,7 +14,7 @@ use Rattle.net.proofs.net.Net.closing_pipes.Goals as goal
 use Rattle.net.proofs.net.Net.closing_pipes.Goals.{then-joined, else-joined}
 
 pub loop-j-init : goal.loop-j-init
-loop-j-init g c = begun_none (shape (view c.args.self.now)) c.own_labels.result _ refl c.own_labels.ensures
+loop-j-init g c = begun_none (shape (view c.args.self.now)) c.own-labels.result _ refl c.own-labels.ensures
 
 pub offset_bounds-self-j : goal.offset_bounds-self-j
 offset_bounds-self-j g c = let few = (kept c.args.self.now).few_pipes in omega arith

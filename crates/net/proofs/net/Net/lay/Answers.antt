@@ -6,39 +6,37 @@ use Rattle.net.proofs.Keeping.{pipe_laid}
 use Rattle.net.proofs.Replies.{counted, pipes_full, lays}
 use Rattle.net.proofs.Views.{seen_laid}
 use Rattle.net.proofs.net.Net.lay.Goals as goal
-use Rattle.net.proofs.net.Net.lay.Goals.{then-place-ge-MOST-PIPES-via-then-place-ge-MOST-PIPES, then-place-ge-MOST-PIPES-via-else-place-ge-MOST-PIPES+then-place-self}
+use Rattle.net.proofs.net.Net.lay.Goals.{then-place-ge-MOST_PIPES-via-then-place-ge-MOST_PIPES, then-place-ge-MOST_PIPES-via-else-place-ge-MOST_PIPES+then-place-self}
 
-pub returns-then-place-ge-MOST-PIPES : goal.returns-then-place-ge-MOST-PIPES
-returns-then-place-ge-MOST-PIPES g c =
+pub returns-then-place-ge-MOST_PIPES : goal.returns-then-place-ge-MOST_PIPES
+returns-then-place-ge-MOST_PIPES g c =
     let n = c.args.self.now in
     let e = pipes_seen n in
     let full : Room n → ⊥ = λ room. let a = room.0 in let b = room.1 in
-    elim c.then-place-ge-MOST-PIPES.branch [
-      | then-place-ge-MOST-PIPES-via-then-place-ge-MOST-PIPES w ↦ omega arith
-      | then-place-ge-MOST-PIPES-via-else-place-ge-MOST-PIPES+then-place-self w ↦ omega arith
+    elim c.then-place-ge-MOST_PIPES.branch [
+      | then-place-ge-MOST_PIPES-via-then-place-ge-MOST_PIPES w ↦ omega arith
+      | then-place-ge-MOST_PIPES-via-else-place-ge-MOST_PIPES+then-place-self w ↦ omega arith
     ] in
     record {
-      replied = (pipes_full n c.args.first c.args.second c.if-not-has-node.ensures c.if-not-has-node-2.ensures c.if-first-second.false full, refl);
+      replied = (pipes_full n c.args.first c.args.second c.if-not-has_node.ensures c.if-not-has_node-2.ensures c.if-first-second.false full, refl);
       lent = refl;
     }
 
-pub invariant-of-self : goal.invariant-of-self
-invariant-of-self g c =
+pub invariant_of-self : goal.invariant_of-self
+invariant_of-self g c =
     let n = c.args.self.now in
-    let a = counted n.tables.nodes c.args.first c.if-not-has-node.ensures in
-    let b = counted n.tables.nodes c.args.second c.if-not-has-node-2.ensures in (
-      simp length-set (omega arith),
-      (
-        ∣ pipe_laid n.tables (kept n) _
-            (record {
-              first_in = (omega (arith, a.0, b.0), omega (arith, a.1, b.1));
-              second_in = (omega (arith, a.0, b.0), omega (arith, a.1, b.1));
-              apart = λ e. omega (arith, c.if-first-second.false);
-            })
-            _ _ (omega arith) (omega arith) c.if-place-ge-MOST-PIPES.false ∣₁,
-        tt,
-      ),
-    )
+    let a = counted n.tables.nodes c.args.first c.if-not-has_node.ensures in
+    let b = counted n.tables.nodes c.args.second c.if-not-has_node-2.ensures in
+    record {
+      fits = simp length-set (omega arith);
+      keeps = ∣ pipe_laid n.tables (kept n) _
+          (record {
+            first_in = (omega (arith, a.0, b.0), omega (arith, a.1, b.1));
+            second_in = (omega (arith, a.0, b.0), omega (arith, a.1, b.1));
+            apart = λ e. omega (arith, c.if-first-second.false);
+          })
+          _ _ (omega arith) (omega arith) c.if-place-ge-MOST_PIPES.false ∣₁;
+    }
 
 pub returns : goal.returns
 returns g c =
@@ -47,7 +45,7 @@ returns g c =
     let few : n.tables.pipes < length n.tables.ends = (let k = (kept n).places.0 in omega arith) in
     record {
       replied = (
-        lays n c.args.first c.args.second c.if-not-has-node.ensures c.if-not-has-node-2.ensures c.if-first-second.false (omega arith, omega arith),
+        lays n c.args.first c.args.second c.if-not-has_node.ensures c.if-not-has_node-2.ensures c.if-first-second.false (omega arith, omega arith),
         record {
           next_number = omega arith;
           one_more = seen_laid n.tables.nodes n.tables.pipes n.tables.ends n.column.now (ends_for_all n) n.fits _ c.args.weight few c.if-place-self.false;

@@ -3,11 +3,11 @@ use Rattle.net.proofs.Kept.{kept, weights_seen}
 use Rattle.net.proofs.Seeking.{laid}
 use Rattle.net.proofs.net.Net.layout.Goals as goal
 
-pub shared_ref_as_front·result : goal.shared_ref_as_front·result
-shared_ref_as_front·result g c = let few = (kept c.args.self.now).few_pipes in omega arith
+pub shared_ref_as_front-result : goal.shared_ref_as_front-result
+shared_ref_as_front-result g c = let few = (kept c.args.self.now).few_pipes in omega arith
 
-pub invariant-of-result : goal.invariant-of-result
-invariant-of-result g c = (∣ laid c.args.self.now ∣₁, tt)
+pub invariant_of-result : goal.invariant_of-result
+invariant_of-result g c = record { laid = ∣ laid c.args.self.now ∣₁ }
 
 pub returns : goal.returns
 returns g c = record { drawn = refl; weighed = sym (weights_seen c.args.self.now) }

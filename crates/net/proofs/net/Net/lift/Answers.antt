@@ -5,11 +5,11 @@ use Rattle.net.proofs.Replies.{lifts}
 use Rattle.net.proofs.Views.{seen_lifted}
 use Rattle.net.proofs.net.Net.lift.Goals as goal
 
-pub invariant-of-self : goal.invariant-of-self
-invariant-of-self g c =
+pub invariant_of-self : goal.invariant_of-self
+invariant_of-self g c =
     let n = c.args.self.now in
     let fits = n.fits in
-    (omega arith, (∣ no_more_pipes n.tables (kept n) _ _ (omega arith) (omega arith) ∣₁, tt))
+    record { fits = omega arith; keeps = ∣ no_more_pipes n.tables (kept n) _ _ (omega arith) (omega arith) ∣₁ }
 
 pub returns : goal.returns
 returns g c =

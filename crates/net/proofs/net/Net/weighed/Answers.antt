@@ -6,4 +6,4 @@ use Rattle.net.proofs.net.Net.weighed.Goals as goal
 pub returns : goal.returns
 returns g c =
     let m = g.M.Measure in
-    c.weight-of.ensures.joined ∙ ap (weight_from m.zero m.join c.args.row 1) (sym (weights_seen c.args.self.now))
+    c.weight_of.ensures.joined ∙ ap (weight_from m.zero m.join c.args.row 1) (sym (weights_seen c.args.self.now))
