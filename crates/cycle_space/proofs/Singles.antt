@@ -1,5 +1,5 @@
 -- The row of one pipe. Assumes nothing.
-use Rattle.std.proofs.Common.{◌≡◌, ℕ, zero, suc, ◌+◌, ◌-◌, ◌*◌, ◌/◌, ◌%◌, ◌^◌, ◌<◌, ◌≤◌, Bool, eqb, ◌⊎◌, get_or, set, sym, refl, ap, ◌∙◌, subst, ⊎_elim, one-mul, arith, pow-add, shr_lt, ne_eqb}
+use Rattle.std.proofs.Common.{◌≡◌, ℕ, zero, suc, ◌+◌, ◌-◌, ◌*◌, ◌/◌, ◌%◌, ◌^◌, ◌<◌, ◌≤◌, Bool, eqb, get_or, set, sym, refl, ap, ◌∙◌, subst, ⊎_elim, one-mul, arith, pow-add, shr_lt, ne_eqb}
 use native.Mathlib.Decide.{ℕ_discrete, dec_lt}
 use lib.Pow.{shl-shr, pow-lt}
 use Rattle.std.proofs.lemmas.List.{length-set, get_or-set_same, get_or-set_other}

@@ -1,5 +1,5 @@
 -- A net at a moment: its nodes, its pipes and their weights, what changes it, and the weight of a set of pipes. Assumes nothing.
-use Rattle.std.specs.Prelude.{◌≡◌, ℕ, zero, suc, ◌+◌, ◌-◌, ◌≤◌, true, cond, List, [], ◌∷◌, ◌++◌, map, length, take, set, ◌≢◌, slice_index, slice_set}
+use Rattle.std.specs.Prelude.{◌≡◌, ℕ, zero, suc, ◌+◌, ◌-◌, ◌≤◌, true, cond, List, [], ◌∷◌, ◌++◌, map, length, take, ◌≢◌, slice_index, slice_set}
 use Rattle.cycle_space.specs.Rows.{Row, holds, empty, sum, FourWords}
 use Rattle.cycle_space.specs.Shapes.{Shape}
 

@@ -1,5 +1,5 @@
 -- When a call is declined, what an accepted call makes of a net, and what a question answers. Assumes nothing.
-use Rattle.std.specs.Prelude.{◌≡◌, ℕ, ◌+◌, ◌-◌, ◌*◌, ◌<◌, ◌≤◌, Bool, List, [], ◌∷◌, ◌++◌, length, set, replicate, Ok, Err, Result, slice_index_or, slice_set}
+use Rattle.std.specs.Prelude.{◌≡◌, ℕ, ◌+◌, ◌-◌, ◌*◌, ◌<◌, ◌≤◌, Bool, List, [], ◌∷◌, ◌++◌, length, replicate, Ok, Err, Result, slice_index_or, slice_set}
 use Rattle.cycle_space.specs.Rows.{Row, empty}
 use Rattle.cycle_space.specs.Shapes.{Node, Due}
 use Rattle.cycle_space.specs.Supports.{Extended}

@@ -5,7 +5,7 @@ use Rattle.cycle_space.specs.Shapes.{Shape}
 use Rattle.cycle_space.proofs.Booleans.{add2_cut}
 use Rattle.cycle_space.proofs.Folds.{bits, fold_same}
 use Rattle.cycle_space.proofs.Counting.{flip}
-use Rattle.cycle_space.proofs.Trails.{ends, touching_parity, bd_same, bd_flip, ends_cross, odd_flip}
+use Rattle.cycle_space.proofs.Trails.{touching_parity, bd_same, bd_flip, ends_cross, odd_flip}
 use Rattle.search.specs.Tasks.{Task, Sound, weight, node}
 use Rattle.search.specs.Steps.{turn}
 use Rattle.search.proofs.Measuring.{Lawful}

@@ -5,7 +5,7 @@ use Rattle.std.proofs.lemmas.Bool.{cases_Bool, cond-true, cond-false}
 use Rattle.cycle_space.specs.Rows.{Row, add2}
 use Rattle.cycle_space.specs.Bases.{touching}
 use Rattle.cycle_space.proofs.Booleans.{add2_same}
-use Rattle.search.specs.Tasks.{Task, Bounded, Sound, Attained, node, is_odd, odd_start}
+use Rattle.search.specs.Tasks.{Task, Bounded, Sound, Attained, node, odd_start}
 use Rattle.search.specs.Steps.{row_at}
 use Rattle.search.specs.Searches.{Shortest, at}
 use Rattle.search.specs.Finds.{at_start, Start, choose, Good, ClosedThrough, Least, Lightest}
