@@ -60,10 +60,10 @@ module _ {M : Type 0} {e : M} {op : M → M → M} {In : M → Type 0} (sp : Spa
 
   pub swapped : (n : ℕ) (B : ℕ → M) (i : ℕ) (c : M) (s : ℕ → Bool) → i < n → picked e op n B s ≡ c → s i ≡ true → In c
       → Spans e op In n B → Spans e op In n (put B i c)
-  swapped n B i c s h q si c-in b = record {
-    members = λ j l. by_eqb (λ t. In (cond t c (B j))) j i (λ _. c-in) (λ _. b.members j l);
-    spans = λ x x-in.
-        let st = b.spans x x-in in
+  swapped n B i c s h q si c_in b = record {
+    members = λ j l. by_eqb (λ t. In (cond t c (B j))) j i (λ _. c_in) (λ _. b.members j l);
+    spans = λ x x_in.
+        let st = b.spans x x_in in
         (turn s i st.0, turned n B i c s (turn s i st.0) h q ∙ ap (picked e op n B) (fun_ext (turn_turn s st.0 i si)) ∙ st.1);
     unique = λ t u eq j l.
         let same = b.unique (turn s i t) (turn s i u) (sym (turned n B i c s t h q) ∙ eq ∙ turned n B i c s u h q) in

@@ -92,10 +92,10 @@ module _ {M : Type 0} {e : M} {op : M → M → M} {In : M → Type 0} (sp : Spa
         both_ways true (sym (eqb_same j) ∙ same ∙ spread_fresh f t d j unhit) refl
 
     pub same_size : n ≡ d
-    same_size = by-lt (no_more ex.places) not_less
+    same_size = by_lt (no_more ex.places) not_less
       where
-        by-lt : d ≤ n → (d < n → ⊥) → n ≡ d
-        by-lt p q = omega arith
+        by_lt : d ≤ n → (d < n → ⊥) → n ≡ d
+        by_lt p q = omega arith
 
 -- at equally many places, heavier members: counts and joined weights
 module _ {V : Type 0} {leq : V → V → Bool} (o : Order leq) where

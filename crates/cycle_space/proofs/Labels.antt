@@ -37,7 +37,7 @@ lower : (N : Shape) (k v : ℕ)
     → Run N k v (label N k v) → Run N k (N.first k) (label N k (N.first k)) → Run N k (N.second k) (label N k (N.second k))
     → label N k v ≡ max (label N k (N.first k)) (label N k (N.second k))
     → Run N (suc k) v (min (label N k (N.first k)) (label N k (N.second k)))
-lower N k v to-v to-p to-q e = go (by_le p q)
+lower N k v to_v to_p to_q e = go (by_le p q)
   where
     a : ℕ
     a = N.first k
@@ -65,11 +65,11 @@ lower N k v to-v to-p to-q e = go (by_le p q)
     go (inl h) =
         let lv : label N k v ≡ label N k (N.second k) = omega arith in
         let low : label N k (N.first k) ≡ min (label N k (N.first k)) (label N k (N.second k)) = omega arith in
-        subst (Run N (suc k) v) low (over b a q p (subst (Run N k v) lv to-v) to-q (inr (refl, refl)) to-p)
+        subst (Run N (suc k) v) low (over b a q p (subst (Run N k v) lv to_v) to_q (inr (refl, refl)) to_p)
     go (inr h) =
         let lv : label N k v ≡ label N k (N.first k) = omega arith in
         let low : label N k (N.second k) ≡ min (label N k (N.first k)) (label N k (N.second k)) = omega arith in
-        subst (Run N (suc k) v) low (over a b p q (subst (Run N k v) lv to-v) to-p (inl (refl, refl)) to-q)
+        subst (Run N (suc k) v) low (over a b p q (subst (Run N k v) lv to_v) to_p (inl (refl, refl)) to_q)
 
 pub to_label : (N : Shape) (k v : ℕ) → Run N k v (label N k v)
 to_label N zero v = stay refl

@@ -16,8 +16,8 @@ module _ {M : Type 0} {e : M} {op : M → M → M} {In : M → Type 0} (sp : Spa
   -- a support that is even against a list, and odd against a member of the space
   pub missed : (φ : M → Bool) → ((x y : M) → φ (op x y) ≡ add2 (φ x) (φ y)) → (k : ℕ) (C : ℕ → M) → ((i : ℕ) → i < k → φ (C i) ≡ false)
       → (x : M) → In x → φ x ≡ true → Spans e op In k C → ⊥
-  missed φ adds k C evens x x-in h b =
-      let st = b.spans x x-in in
+  missed φ adds k C evens x x_in h b =
+      let st = b.spans x x_in in
       both_ways (φ x) (ap φ (sym st.1) ∙ even sp φ adds k C st.0 evens) h
 
   module _ {V : Type 0} {leq : V → V → Bool} {w : M → V} {S : ℕ → M → Bool} (adds : (i : ℕ) (x y : M) → S i (op x y) ≡ add2 (S i x) (S i y))
@@ -54,10 +54,10 @@ module _ {M : Type 0} {e : M} {op : M → M → M} {In : M → Type 0} (sp : Spa
       -- what is even against the supports from k on is the sum of some of the first k rings
       reach : (k : ℕ) → k ≤ d → (x : M) → In x → ((i : ℕ) → k ≤ i → i < d → S i x ≡ false) → (s : ℕ → Bool) × (picked e op k C s ≡ x)
       unfolding fold
-      reach zero l x x-in h = ((λ _. false), sym (separated x x-in (λ i il. h i (omega arith) il)))
-      reach (suc k) l x x-in h =
+      reach zero l x x_in h = ((λ _. false), sym (separated x x_in (λ i il. h i (omega arith) il)))
+      reach (suc k) l x x_in h =
           let c : M = cond (S k x) (C k) e in
-          let r = reach k (omega arith) (op c x) (sp.sums c x (in_part k l (S k x)) x-in)
+          let r = reach k (omega arith) (op c x) (sp.sums c x (in_part k l (S k x)) x_in)
           (λ i kl il. adds i c x
           ∙ by_eqb (λ _. add2 (S i c) (S i x) ≡ false) i k
           (λ q. subst (λ a. add2 (S a c) (S a x) ≡ false) (sym q) (ap (λ b. add2 b (S k x)) (own_part k l (S k x)) ∙ add2_same (S k x)))
@@ -72,7 +72,7 @@ module _ {M : Type 0} {e : M} {op : M → M → M} {In : M → Type 0} (sp : Spa
       pub ring_basis : Spans e op In d C
       ring_basis = record {
         members = rings.inside;
-        spans = λ x x-in. reach d (omega arith) x x-in (λ i dl il. absurd (omega arith));
+        spans = λ x x_in. reach d (omega arith) x x_in (λ i dl il. absurd (omega arith));
         unique = λ s t eq i il. add2_equal (s i) (t i)
             (none_picked d (omega arith) (λ j. add2 (s j) (t j))
             (picked_add sp d C s t ∙ ap (λ x. op x (picked e op d C t)) eq ∙ sp.twice (picked e op d C t)) i il);

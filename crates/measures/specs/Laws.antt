@@ -1,7 +1,7 @@
 -- The laws of a measure and of a strict measure, at all values. Assumes nothing.
 use Rattle.std.specs.Prelude.{◌≡◌, Bool, true, false, ◌⊎◌}
 
--- a measure, but for `Keeps-order`: a totally preordered commutative monoid, whose least value is the zero and whose greatest, its top, is the ceiling; `within a b` says that a is at most b
+-- a measure, but for `KeepsOrder`: a totally preordered commutative monoid, whose least value is the zero and whose greatest, its top, is the ceiling; `within a b` says that a is at most b
 pub record Laws {M : Type 0} (zero ceiling : M) (join : M → M → M) (within : M → M → Bool) : Type 0 where
   pub assoc : (a b c : M) → join (join a b) c ≡ join a (join b c)
   pub comm : (a b : M) → join a b ≡ join b a

@@ -71,9 +71,9 @@ module _ {M : Type 0} (n : Net M) where
       let l = p.1 in
       read_row n.tables.supports (i - 1) (omega arith) ∙ sym (supports_stored n.tables (i - 1) (λ e. let q = p.0 in omega arith))
 
-  module _ (a b : ℕ) (is-a : true ≡ (leb 1 a && leb a n.tables.nodes)) (is_b : true ≡ (leb 1 b && leb b n.tables.nodes)) (ne : a ≡ b → ⊥) where
+  module _ (a b : ℕ) (is_a : true ≡ (leb 1 a && leb a n.tables.nodes)) (is_b : true ≡ (leb 1 b && leb b n.tables.nodes)) (ne : a ≡ b → ⊥) where
     nodes : Node (shape (view n)) a × Node (shape (view n)) b
-    nodes = (counted n.tables.nodes a is-a, counted n.tables.nodes b is_b)
+    nodes = (counted n.tables.nodes a is_a, counted n.tables.nodes b is_b)
 
     pub pipes_full : (Room n → ⊥) → Smallest (LayDeclined n a b) PipesFull
     pipes_full full = the_only (no_room refl full) only

@@ -1,7 +1,7 @@
 // Next: one ring after the other.
 ghost use Rattle.std.specs.Prelude.{◌≡◌, true, ◌↔◌, length};
 ghost use Rattle.cycle_space.specs.Shapes.{Due};
-ghost use Rattle.cycle_space.specs.Moments.{shape, weights as weights-of};
+ghost use Rattle.cycle_space.specs.Moments.{shape, weights as weights_of};
 ghost use Rattle.search.specs.Sought.{plan};
 ghost use Rattle.net.specs.Keeps.{laid_out};
 ghost use Rattle.net.specs.Views.{view, rings};
@@ -17,7 +17,7 @@ impl<'a, M: Measure> Net<'a, M> {
     // The net as the search takes it.
     fn layout(&self) -> Layout<M>
         ensures drawn { plan result ≡ laid_out self.now.tables }
-        ensures weighed { result.weights.now ≡ weights-of (view self.now) }
+        ensures weighed { result.weights.now ≡ weights_of (view self.now) }
     {
         let weights: &[M] = self.column;
         Layout {

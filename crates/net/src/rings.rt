@@ -2,7 +2,7 @@
 ghost use Rattle.std.specs.Prelude.{◌≡◌};
 ghost use Rattle.cycle_space.specs.Rivals.{joined_weight};
 ghost use Rattle.cycle_space.specs.Moments.{weight as set_weight};
-ghost use Rattle.net.specs.Views.{view, rings, support as support-of};
+ghost use Rattle.net.specs.Views.{view, rings, support as support_of};
 ghost use Rattle.net.specs.Calls.{ring_row, TellsRow, TellsRingWeight};
 
 use crate::net::Net;
@@ -28,7 +28,7 @@ impl<'a, M: Measure> Net<'a, M> {
 
     // The support of a ring.
     pub fn support(&self, ring: usize) -> Result<[u64; 4], NoRow>
-        ensures { TellsRow self.now ring (support-of self.now ring) result }
+        ensures { TellsRow self.now ring (support_of self.now ring) result }
     {
         if !self.tables.has_ring(ring) {
             return Err(NO_SUCH_RING);

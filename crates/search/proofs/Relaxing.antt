@@ -46,9 +46,9 @@ pub record Moved {M : Type 0} (t : Task M) (u v j : ℕ) (reach : M) (f : Front)
 
 moved : {M : Type 0} (t : Task M) (u v j : ℕ) (reach : M) (f : Front) (d : List M) (f' : Front) (d' : List M) → Kept t f d → v < 2 * t.shape.nodes → v < 128 → Entered f d u v j reach f' d' → Moved t u v j reach f d f' d'
 moved t u v j reach f d f' d' kept small fits e =
-    let in-d : v < length d = let h = kept.sized in omega arith in
-    let in-r : v < length f.reached = let h = kept.reached_sized in omega arith in
-    let in-x : v < length f.ways = let h = kept.ways_sized in omega arith in
+    let in_d : v < length d = let h = kept.sized in omega arith in
+    let in_r : v < length f.reached = let h = kept.reached_sized in omega arith in
+    let in_x : v < length f.ways = let h = kept.ways_sized in omega arith in
     record {
       dist_long = ap length e.dist_is ∙ length-set _ _ _;
       reached_long = ap length e.reached_is ∙ length-set _ _ _;
@@ -56,11 +56,11 @@ moved t u v j reach f d f' d' kept small fits e =
       ways_long = ap length e.ways_is ∙ length-set _ _ _;
       s_same = λ k. ap (λ (l : List Bool). get_or l k false) e.settled_is;
       d_same = λ k ne. ap (λ l. at t l k) e.dist_is ∙ get_or-set_other d v k reach t.none ne;
-      d_new = ap (λ l. at t l v) e.dist_is ∙ get_or-set_same d v reach t.none in-d;
+      d_new = ap (λ l. at t l v) e.dist_is ∙ get_or-set_same d v reach t.none in_d;
       r_same = λ k ne. ap (λ (l : List Bool). get_or l k false) e.reached_is ∙ get_or-set_other _ v k true false ne;
-      r_new = ap (λ (l : List Bool). get_or l v false) e.reached_is ∙ get_or-set_same _ v true false in-r;
+      r_new = ap (λ (l : List Bool). get_or l v false) e.reached_is ∙ get_or-set_same _ v true false in_r;
       x_same = λ k ne. ap (λ (l : List Way). row_at l k) e.ways_is ∙ ap (λ (r : Way). r.words) (get_or-set_other f.ways v k _ blank ne);
-      x_new = ap (λ (l : List Way). row_at l v) e.ways_is ∙ ap (λ (r : Way). r.words) (get_or-set_same f.ways v _ blank in-x);
+      x_new = ap (λ (l : List Way). row_at l v) e.ways_is ∙ ap (λ (r : Way). r.words) (get_or-set_same f.ways v _ blank in_x);
     }
 
 module _ {M : Type 0} (t : Task M) (laws : Lawful t) (step : Stepping t) (u v i : ℕ) (f : Front) (d : List M) (f' : Front) (d' : List M)
@@ -155,7 +155,7 @@ module _ {M : Type 0} (t : Task M) (laws : Lawful t) (step : Stepping t) (u v i 
 -- where the other state does not improve
 pub stayed_on : {M : Type 0} (t : Task M) → Lawful t → (u v i : ℕ) (f : Front) (d : List M) → Settling t u i f d → arc t u i ≡ Some v
     → better t.none t.within f.settled f.reached d v (t.join (at t d u) (weight t i)) ≡ false → Settling t u (i + 1) f d
-stayed_on t laws u v i f d s leads no-better = record {
+stayed_on t laws u v i f d s leads no_better = record {
   kept = s.kept;
   mine = s.mine;
   before = s.before;
@@ -167,12 +167,12 @@ stayed_on t laws u v i f d s leads no-better = record {
       subst P (sym e) (⊎_elim
       (λ sv. (s.kept.known v sv, laws.base.trans _ _ _ (s.before v sv) (grows laws _ _)))
       (λ h. h)
-      (not_better _ _ _ no-better)));
+      (not_better _ _ _ no_better)));
 }
 
 -- where the pipe does not lie at u
 pub passed_on : {M : Type 0} (t : Task M) (u i : ℕ) (f : Front) (d : List M) → Settling t u i f d → arc t u i ≡ None → Settling t u (i + 1) f d
-passed_on t u i f d s no-arc = record {
+passed_on t u i f d s no_arc = record {
   kept = s.kept;
   mine = s.mine;
   before = s.before;
@@ -188,10 +188,10 @@ relaxed_on {M} t laws step u v i f d f' d' s here leads small fits w is q =
     let P : M → Type 0 = λ y. Relaxed t.none t.join t.within f d u v i y f' d' in
     let r = subst P is q in
     ⊎_elim
-    (λ yes-better.
-    let b = is_better _ _ _ yes-better in
-    entered_on t laws step u v i f d f' d' s here leads small b.0 b.1 (moved t u v i _ f d f' d' s.kept small fits (r.moves yes-better)))
-    (λ no-better.
-    let e = r.stays no-better in
-    rw (e.0, e.1) (stayed_on t laws u v i f d s leads no-better))
+    (λ yes_better.
+    let b = is_better _ _ _ yes_better in
+    entered_on t laws step u v i f d f' d' s here leads small b.0 b.1 (moved t u v i _ f d f' d' s.kept small fits (r.moves yes_better)))
+    (λ no_better.
+    let e = r.stays no_better in
+    rw (e.0, e.1) (stayed_on t laws u v i f d s leads no_better))
     (cases_Bool (better t.none t.within f.settled f.reached d v (t.join (at t d u) (weight t i))))
