@@ -10,6 +10,6 @@ pub struct Net<'a, M> {
     pub(crate) tables: Tables,
     // the column has a place for each pipe
     ghost fits: { tables.pipes ≤ length column.now },
-    // there are at most 64 nodes and 256 pipes, and every pipe leads from a node to another
+    // there are at most 64 nodes and 256 pipes, every pipe leads from a node to another, and the rings found and their supports are sound
     ghost keeps: { ∥ Keeps tables ∥₁ },
 }
