@@ -1,16 +1,23 @@
 // Rows: sets of the pipes 1 to 256, as four words of 64 bits.
-ghost use Rattle.std.specs.Prelude.{◌≡◌, ℕ, suc, nat_eq};
+ghost use Rattle.std.specs.Prelude.{◌≡◌, ℕ, suc, ◌-◌, ◌/◌, ◌%◌, ◌<◌, ◌≤◌, ◌⊎◌, nat_eq, MatchOption};
 ghost use Rattle.cycle_space.specs.Rows.{holds, add2, row_of, sum, odd};
 
-// Whether the pipe is in the row. No row has pipe 0 or a pipe above 256.
+// Where a pipe stands in a row: its word, and its bit in that word. There is no pipe 0, and none above 256.
+fn spot(pipe: usize) -> Option<(usize, usize)>
+    ensures { MatchOption result ((pipe ≡ 0) ⊎ (256 < pipe)) (λ s. (1 ≤ pipe) × (pipe ≤ 256) × (s.0 ≡ (pipe - 1) / 64) × (s.1 ≡ (pipe - 1) % 64)) }
+{
+    let place = pipe.checked_sub(1)?;
+    (place < 256).then_some((place / 64, place % 64))
+}
+
+// Whether the pipe is in the row.
 pub fn has(row: [u64; 4], pipe: usize) -> bool
     ensures { result ≡ holds row pipe }
 {
-    if pipe == 0 || pipe > 256 {
-        return false;
+    match spot(pipe) {
+        Some((word, bit)) => (row[word] >> bit) & 1 == 1,
+        None => false,
     }
-    let place = pipe - 1;
-    (row[place / 64] >> (place % 64)) & 1 == 1
 }
 
 // The row of one pipe; where there can be no such pipe, the empty row.
@@ -18,11 +25,9 @@ pub fn single(pipe: usize) -> [u64; 4]
     ensures { result ≡ row_of (λ j. nat_eq (suc j) pipe) }
 {
     let mut row = [0; 4];
-    if pipe == 0 || 256 < pipe {
-        return row;
+    if let Some((word, bit)) = spot(pipe) {
+        row[word] = 1 << bit;
     }
-    let (word, bit) = ((pipe - 1) / 64, (pipe - 1) % 64);
-    row[word] = 1 << bit;
     row
 }
 

@@ -50,14 +50,22 @@ pub trait FileMeasure: Measure {
     const GREATEST: u64;
 
     // The same number, for clauses.
-    ghost greatest: { ℕ };
+    ghost GREATEST: { ℕ };
 
     // The value that a number stands for.
     ghost standing: { ℕ → Self };
 
-    fn greatest_number() -> u64
-        ensures { result ≡ greatest };
-
     fn of_number(number: u64) -> Result<Self, Refusal>
-        ensures { result ≡ Read standing greatest number };
+        ensures { result ≡ Read standing GREATEST number };
+}
+
+// The number, where it is at most the greatest.
+pub(crate) fn up_to(greatest: u64, number: u64) -> Result<u64, Refusal>
+    ensures { result ≡ Read (λ n. n) greatest number }
+{
+    if number <= greatest {
+        Ok(number)
+    } else {
+        Err(Refusal::FileNumberTooGreat)
+    }
 }

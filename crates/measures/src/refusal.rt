@@ -8,7 +8,7 @@ use std::fmt;
 #[derive(Clone, Copy, PartialEq, Eq, Debug)]
 pub enum Refusal {
     // It is above the greatest that the measure takes.
-    FileNumberTooGreat,
+    FileNumberTooGreat = 9,
 }
 
 impl Refusal {
@@ -16,9 +16,7 @@ impl Refusal {
     pub fn number(self) -> u8
         ensures { result ≡ number self }
     {
-        match self {
-            Refusal::FileNumberTooGreat => 9,
-        }
+        self as u8
     }
 
     // The reason, in words.
