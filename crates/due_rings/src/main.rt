@@ -7,6 +7,7 @@ use net::{Net, Refusal};
 const NODES: usize = 4;
 
 // A pipe as it is wished: its two ends and its length.
+#[derive(Clone, Copy)]
 struct Wish(usize, usize, u64);
 
 const WISHES: [Wish; 6] = [
@@ -19,9 +20,9 @@ const WISHES: [Wish; 6] = [
 ];
 
 // Lays one pipe and says so, or says why it was refused.
-fn lay(rt: &HostRuntime, net: &mut Net<Length>, wish: &Wish) -> anyhow::Result<()> {
+fn lay(rt: &HostRuntime, net: &mut Net<Length>, wish: Wish) -> anyhow::Result<()> {
     let Wish(first, second, length) = wish;
-    match net.lay(*first, *second, Length::new(*length)) {
+    match net.lay(first, second, Length::new(length)) {
         Ok(pipe) => println!(rt;
             "pipe {pipe} laid from node {first} to node {second}, length {length}"
         )?,
@@ -42,7 +43,7 @@ fn main(rt: HostRuntime) -> anyhow::Result<()> {
         let node = net.add_node()?;
         println!(rt; "node {node} added")?;
     }
-    for wish in &WISHES {
+    for wish in WISHES {
         lay(&rt, &mut net, wish)?;
     }
     let nodes = net.nodes();

@@ -7,6 +7,7 @@ use net::{Net, NoRow, Refusal, has};
 const NODES: usize = 4;
 
 // A pipe of the net: its two ends and its length.
+#[derive(Clone, Copy)]
 struct Pipe(usize, usize, u64);
 
 const PIPES: [Pipe; 5] = [
@@ -19,7 +20,7 @@ const PIPES: [Pipe; 5] = [
 
 // Writes the numbers of the pipes in a row.
 fn list(rt: &HostRuntime, row: [u64; 4]) -> anyhow::Result<()> {
-    for pipe in 1..257 {
+    for pipe in 1..=256 {
         if has(row, pipe) {
             print!(rt; " {pipe}")?;
         }
@@ -60,8 +61,8 @@ fn main(rt: HostRuntime) -> anyhow::Result<()> {
     for _ in 0..NODES {
         net.add_node()?;
     }
-    for Pipe(first, second, length) in &PIPES {
-        net.lay(*first, *second, Length::new(*length))?;
+    for Pipe(first, second, length) in PIPES {
+        net.lay(first, second, Length::new(length))?;
     }
     find(&rt, &mut net, &mut [Length::new(0); 2 * NODES])
 }

@@ -44,7 +44,7 @@ fn the_ends_have_to_be_two(rt: HostRuntime) -> Result<(), Fail> {
 fn the_column_has_to_have_a_place(rt: HostRuntime) -> Result<(), Fail> {
     let mut column = [one(); 3];
     let mut net = built(&mut column, 2, &[])?;
-    for pipe in 1..4usize {
+    for pipe in 1..=3usize {
         assert_eq!(rt; net.lay(1, 2, one()), Ok(pipe));
     }
     assert_eq!(rt; net.lay(1, 2, one()), Err(Refusal::PipesFull));
