@@ -4,7 +4,8 @@ ghost use Rattle.measures.specs.Numbers.{Read};
 
 use crate::refusal::Refusal;
 
-// A measure: values with a zero and a ceiling, that are joined, and of which any two can be weighed.
+// A measure: values with a zero and a ceiling, that are joined, and of which any two can be weighed. They are weighed by `at_most` and not by a
+// `PartialOrd`, for which level values would have to be equal.
 pub trait Measure: Copy {
     // No weight at all.
     ghost zero: { Self };
@@ -30,7 +31,7 @@ pub trait Measure: Copy {
     fn at_most(self, other: Self) -> bool
         ensures { result ≡ within self other };
 
-    // A promise, and no work: what is joined to both sides keeps their order.
+    // A promise, and no work: what is joined to both sides keeps their order. It is a function and no law by a rule of the project.
     fn join_keeps_order()
         ensures { KeepsOrder join within };
 
@@ -39,7 +40,7 @@ pub trait Measure: Copy {
 
 // A measure that has room to tell values apart: below the ceiling, what is joined to both sides keeps the lighter one lighter.
 pub trait Strict: Measure {
-    // A promise, and no work.
+    // A promise, and no work; a function and no law by a rule of the project.
     fn join_keeps_lighter()
         ensures { KeepsLighter Self.Measure.ceiling Self.Measure.join Self.Measure.within };
 }
@@ -55,6 +56,7 @@ pub trait FileMeasure: Measure {
     // The value that a number stands for.
     ghost standing: { ℕ → Self };
 
+    // The value of a file's number. No `TryFrom`, which says what it answers by a relation of its own: a law would have to tie it to this clause.
     fn of_number(number: u64) -> Result<Self, Refusal>
         ensures { result ≡ Read standing GREATEST number };
 }

@@ -29,6 +29,7 @@ impl Refusal {
     }
 }
 
+// Written and not derived: what a derive prints, no contract says.
 impl fmt::Display for Refusal {
     ghost output = { λ e. Some (words e) };
 

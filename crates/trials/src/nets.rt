@@ -1,7 +1,24 @@
 // Small nets with known parts and due numbers, and what lay, lift and reweigh leave in the column.
-use measures::{Grade, Length};
+use measures::{Grade, Length, Measure};
 use net::*;
 use std::test::Fail;
+
+// A net of so many nodes, with pipes of these ends and weights.
+pub(crate) fn net_of<'a, M: Measure>(
+    column: &'a mut [M],
+    nodes: usize,
+    ends: &[(usize, usize)],
+    weights: &[M],
+) -> Result<Net<'a, M>, Refusal> {
+    let mut net = Net::open(column);
+    for _ in 0..nodes {
+        net.add_node()?;
+    }
+    for ((first, second), weight) in ends.iter().zip(weights) {
+        net.lay(*first, *second, *weight)?;
+    }
+    Ok(net)
+}
 
 // A net of so many nodes and these pipes, all of length 1.
 pub(crate) fn built<'a>(
@@ -9,14 +26,7 @@ pub(crate) fn built<'a>(
     nodes: usize,
     pipes: &[(usize, usize)],
 ) -> Result<Net<'a, Length>, Refusal> {
-    let mut net = Net::open(column);
-    for _ in 0..nodes {
-        net.add_node()?;
-    }
-    for (first, second) in pipes {
-        net.lay(*first, *second, Length::new(1))?;
-    }
-    Ok(net)
+    net_of(column, nodes, pipes, &[Length::new(1); 256])
 }
 
 #[test]

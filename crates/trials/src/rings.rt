@@ -1,50 +1,30 @@
 // Small nets with known rings, and what next declines.
+use crate::nets::net_of;
 use measures::{Grade, Length, Measure};
 use net::*;
 use std::test::Fail;
 
 // Four nodes, a triangle of pipes 1 to 3, and a way round over node 4 beside pipe 3.
 fn kite<'a, M: Measure>(column: &'a mut [M], weights: [M; 5]) -> Result<Net<'a, M>, Refusal> {
-    let mut net = Net::open(column);
-    for _ in 0..4 {
-        net.add_node()?;
-    }
-    net.lay(1, 2, weights[0])?;
-    net.lay(2, 3, weights[1])?;
-    net.lay(3, 1, weights[2])?;
-    net.lay(3, 4, weights[3])?;
-    net.lay(4, 1, weights[4])?;
-    Ok(net)
+    net_of(
+        column,
+        4,
+        &[(1, 2), (2, 3), (3, 1), (3, 4), (4, 1)],
+        &weights,
+    )
 }
 
 fn lengths() -> [Length; 5] {
-    [
-        Length::new(3),
-        Length::new(4),
-        Length::new(5),
-        Length::new(1),
-        Length::new(1),
-    ]
+    [3, 4, 5, 1, 1].map(Length::new)
 }
 
 fn grades() -> [Grade; 5] {
-    [
-        Grade::new(3),
-        Grade::new(4),
-        Grade::new(5),
-        Grade::new(1),
-        Grade::new(1),
-    ]
+    [3, 4, 5, 1, 1].map(Grade::new)
 }
 
 // Two nodes and two pipes between them.
 fn pair<'a, M: Measure>(column: &'a mut [M], first: M, second: M) -> Result<Net<'a, M>, Refusal> {
-    let mut net = Net::open(column);
-    net.add_node()?;
-    net.add_node()?;
-    net.lay(1, 2, first)?;
-    net.lay(1, 2, second)?;
-    Ok(net)
+    net_of(column, 2, &[(1, 2), (1, 2)], &[first, second])
 }
 
 #[test]
@@ -178,7 +158,7 @@ fn a_full_net_is_completed(rt: HostRuntime) -> Result<(), Fail> {
     for _ in 0..64 {
         net.add_node()?;
     }
-    for step in 1..5 {
+    for step in 1..=4 {
         for node in 0..64 {
             net.lay(node + 1, (node + step) % 64 + 1, Length::new(1))?;
         }
