@@ -3,7 +3,7 @@ use Rattle.std.proofs.lemmas.List.{get_or_read}
 use Rattle.search.specs.Tasks.{odd_start}
 use Rattle.search.specs.Finds.{from_node}
 use Rattle.search.proofs.Finding.{found_at}
-use Rattle.search.proofs.Laying.{laid, sound_from}
+use Rattle.search.proofs.Laying.{sound_from}
 use Rattle.search.proofs.lightest.closed_through.Goals as goal
 
 pub search-front-requires : goal.search-front-requires
@@ -16,13 +16,13 @@ search-front-requires g c =
     }
 
 pub bounds-front-at : goal.bounds-front-at
-bounds-front-at g c = let few = (laid c.args.net.now).few_nodes in let high = c.requires.inside.1 in omega arith
+bounds-front-at g c = let few = c.args.net.now.few_nodes in let high = c.requires.inside.1 in omega arith
 
 pub bounds-front-at-then-front-at : goal.bounds-front-at-then-front-at
-bounds-front-at-then-front-at g c = let few = (laid c.args.net.now).few_nodes in let high = c.requires.inside.1 in omega arith
+bounds-front-at-then-front-at g c = let few = c.args.net.now.few_nodes in let high = c.requires.inside.1 in omega arith
 
 pub offset_bounds-front-at : goal.offset_bounds-front-at
-offset_bounds-front-at g c = let few = (laid c.args.net.now).few_nodes in let high = c.requires.inside.1 in omega arith
+offset_bounds-front-at g c = let few = c.args.net.now.few_nodes in let high = c.requires.inside.1 in omega arith
 
 pub returns-then-front-at : goal.returns-then-front-at
 returns-then-front-at g c =
