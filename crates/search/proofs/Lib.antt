@@ -10,4 +10,3 @@ pub mod Starting
 pub mod Rings
 pub mod Finding
 pub mod Laying
-pub mod Hunting

@@ -3,9 +3,13 @@
 use Rattle.std.specs.Prelude.{◌≡◌, ℕ, ◌+◌, ◌-◌, ◌*◌, ◌/◌, ◌%◌, ◌<◌, ◌≤◌, Bool, true, cond, List, map, length, Some, None, Option, ◌==◌, slice_index_or}
 use Rattle.cycle_space.specs.Rows.{Row, bit, add2, odd}
 use Rattle.cycle_space.specs.Shapes.{Shape, Node, EndsAreNodes}
-use Rattle.cycle_space.specs.Moments.{drawn, weight_from}
+use Rattle.cycle_space.specs.Moments.{weight_from}
 use Rattle.cycle_space.specs.Bases.{OfPipes, touching}
+use Rattle.measures.specs.declared.measure.Measure.{Ghosts}
+use Rattle.search.specs.declared.layout.Layout.{Layout}
 use Rattle.search.specs.declared.hunt.Hunt.{Hunt}
+use Rattle.search.specs.declared.front.Front.{Front}
+use Rattle.search.specs.Sought.{plan}
 
 pub record Task (M : Type 0) : Type 0 where
   pub none : M
@@ -28,17 +32,18 @@ pub record Sound {M : Type 0} (t : Task M) : Type 0 where
   pub net : Bounded t
   pub start_in : Node t.shape t.start
 
--- the task of a hunt
-abbrev pub task : {M : Type 0} → M → (M → M → M) → (M → M → Bool) → Hunt M → Task M
-task none join within h = record {
-  none = none;
-  join = join;
-  within = within;
-  shape = drawn h.nodes (map (λ e. e.first) h.ends.now) (map (λ e. e.second) h.ends.now);
-  weights = h.weights.now;
-  support = h.support;
-  start = h.start;
-}
+-- the search of a net from the node s
+abbrev pub from_node : {M : Type 0} → M → (M → M → M) → (M → M → Bool) → Layout M → Row → ℕ → Task M
+from_node none join within l support s =
+    record { none = none; join = join; within = within; shape = plan l; weights = l.weights.now; support = support; start = s }
+
+-- the task of a hunt from the node s
+abbrev pub task : {M : Type 0} {m : Ghosts M} → Hunt M m → ℕ → Task M
+task {m = m} h s = from_node m.zero m.join m.within h.net.now h.support s
+
+-- the task of a front
+abbrev pub task_of : {M : Type 0} {m : Ghosts M} → Front M m → Task M
+task_of f = task f.hunt.now f.start
 
 -- the state of the node v, from 1, with the parity p, 0 or 1
 abbrev pub state : ℕ → ℕ → ℕ

@@ -1,10 +1,11 @@
 use Rattle.search.specs.Tasks.{task}
+use Rattle.search.proofs.Laying.{sound, lawful}
 use Rattle.search.proofs.Starting.{started}
 use Rattle.search.proofs.front.Front.at_start.Goals as goal
 
-pub returns : goal.returns
-returns g c =
-    let m = g.M.Measure in
-    let t = task m.zero m.join m.within c.args.hunt.now in
+pub returns-clause-searching : goal.returns-clause-searching
+returns-clause-searching g c =
+    let h = c.args.hunt.now in
+    let s = c.args.start in
     rw c.zero.ensures
-    (started t (record { ceiling = m.ceiling; base = g.met.M.Measure.lawful; order = c.requires.order }) c.requires.sound c.args.dist.now c.requires.room)
+    (started (task h s) (lawful h s g.met.M.Measure.lawful) (sound h s c.requires.inside.0 c.requires.inside.1) c.args.dist.now c.requires.room)
