@@ -1,6 +1,5 @@
 -- The lemmas, each file above those that use it. Assumes nothing.
 pub mod Measuring
-pub mod Picks
 pub mod Relaxing
 pub mod Turns
 pub mod Sets

@@ -1,5 +1,6 @@
 // The front of a search.
-ghost use Rattle.std.specs.Prelude.{◌*◌, ◌≤◌, length};
+ghost use Rattle.std.specs.Prelude.{◌≤◌, length};
+ghost use Rattle.search.specs.Layouts.{states};
 
 use crate::hunt::Hunt;
 use crate::mark::Mark;
@@ -15,8 +16,8 @@ pub(crate) struct Front<'a, M: Measure> {
     pub(crate) marks: [Mark; 128],
     // the start is a node
     ghost start_in: { (1 ≤ start) × (start ≤ hunt.now.net.now.nodes) },
-    // there are two places for each node
-    ghost room: { 2 * hunt.now.net.now.nodes ≤ length dist.now },
+    // dist has a place for each state
+    ghost room: { states hunt.now.net.now ≤ length dist.now },
 }
 
 impl<M: Measure> Front<'_, M> {
@@ -27,7 +28,7 @@ impl<M: Measure> Front<'_, M> {
 
     // The nearer of the state best, if there is one, and the state k.
     fn nearer(&self, best: Option<usize>, k: usize) -> usize
-        requires { (k < length self.now.dist.now) × (Inside (length self.now.dist.now) best) }
+        requires { (k < states self.now.hunt.now.net.now) × (Inside (states self.now.hunt.now.net.now) best) }
         ensures { Nearer M.zero M.within self.now.dist.now best k result }
     {
         match best {
@@ -38,7 +39,7 @@ impl<M: Measure> Front<'_, M> {
 
     // The nearest of the open states.
     pub(crate) fn nearest_open(&self) -> Option<usize>
-        ensures { Picked M.zero M.within self.now.dist.now self.now.marks (2 * self.now.hunt.now.net.now.nodes) result }
+        ensures { Picked M.zero M.within self.now.dist.now self.now.marks (states self.now.hunt.now.net.now) result }
     {
         let mut best = None;
         for (k, mark) in self.marks[..2 * self.hunt.net.nodes].iter().enumerate() {
@@ -51,7 +52,7 @@ impl<M: Measure> Front<'_, M> {
 
     // Whether the state v is open to the distance reach: it is not settled, and not reached at that distance or a smaller one.
     fn improves(&self, v: usize, reach: M) -> bool
-        requires { (v < 128) × (v < length self.now.dist.now) }
+        requires { v < states self.now.hunt.now.net.now }
         ensures { result ≡ better M.within (mark self.now.marks v) (slice_index_or self.now.dist.now v M.zero) reach }
     {
         match self.marks[v] {
@@ -63,7 +64,7 @@ impl<M: Measure> Front<'_, M> {
 
     // Reaches the state v from the state u over the pipe at the place.
     fn enter(&mut self, u: usize, v: usize, place: usize, reach: M)
-        requires inside { (u < 128) × ((v < 128) × ((v < length self.old.dist.now) × (place < 256))) }
+        requires inside { (u < states self.old.hunt.now.net.now) × (v < states self.old.hunt.now.net.now) × (place < 256) }
         requires from { reached self.old.marks u ≡ true }
         ensures same { Same self.old self.new }
         ensures entered { Entered self.old.marks self.old.dist.now u v place reach self.new.marks self.new.dist.now }
@@ -75,7 +76,7 @@ impl<M: Measure> Front<'_, M> {
 
     // Reaches the state v from the state u over the pipe at the place, of the weight w, if v is not nearer already.
     pub(crate) fn relax(&mut self, u: usize, v: usize, place: usize, w: M)
-        requires inside { (u < 128) × ((v < 128) × ((v < length self.old.dist.now) × ((u < length self.old.dist.now) × (place < 256)))) }
+        requires inside { (u < states self.old.hunt.now.net.now) × (v < states self.old.hunt.now.net.now) × (place < 256) }
         requires from { reached self.old.marks u ≡ true }
         ensures same { Same self.old self.new }
         ensures relaxed { Relaxed M.zero M.join M.within self.old.marks self.old.dist.now u v place w self.new.marks self.new.dist.now }

@@ -16,12 +16,13 @@ pub(crate) struct Hunt<'a, M: Measure> {
 
 impl<M: Measure> Hunt<'_, M> {
     ghost use Rattle.std.specs.Prelude.{◌≡◌, ◌*◌, ◌<◌, ◌≤◌, length};
+    ghost use Rattle.search.specs.Layouts.{states};
     ghost use Rattle.search.specs.Fronts.{Inside};
     ghost use Rattle.search.specs.Tasks.{task, arc, arrival};
 
     // The state at the node, come to from the state u over the pipe at the place.
     fn arrival(&self, node: usize, u: usize, place: usize) -> usize
-        requires { (1 ≤ node) × ((node ≤ 64) × (place < 256)) }
+        requires { (1 ≤ node) × (node ≤ 64) × (place < 256) }
         ensures { result ≡ arrival self.now.support node u place }
     {
         if has(self.support, place + 1) {
@@ -35,7 +36,7 @@ impl<M: Measure> Hunt<'_, M> {
     pub(crate) fn across(&self, u: usize, place: usize) -> Option<usize>
         requires { place < length self.now.net.now.ends.now }
         ensures leads { result ≡ arc (task self.now 1) u place }
-        ensures inside { Inside (2 * self.now.net.now.nodes) result }
+        ensures inside { Inside (states self.now.net.now) result }
     {
         let node = u / 2 + 1;
         let ends = self.net.ends[place];

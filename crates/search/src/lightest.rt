@@ -1,5 +1,6 @@
 // The lightest closed set that is odd against the support: a search from each node that a pipe of the support is drawn from.
-ghost use Rattle.std.specs.Prelude.{◌≡◌, ◌*◌, ◌<◌, ◌≤◌, false, length};
+ghost use Rattle.std.specs.Prelude.{◌≡◌, ◌≤◌, false, length};
+ghost use Rattle.search.specs.Layouts.{states};
 ghost use Rattle.search.specs.Tasks.{task};
 ghost use Rattle.search.specs.Sought.{Sought};
 ghost use Rattle.search.specs.Finds.{Start, choose, ClosedThrough, Lightest};
@@ -7,6 +8,7 @@ ghost use Rattle.search.specs.Finds.{Start, choose, ClosedThrough, Lightest};
 use crate::front::Front;
 use crate::hunt::Hunt;
 use crate::layout::Layout;
+use crate::mark::Mark;
 use cycle_space::has;
 use measures::Measure;
 
@@ -26,15 +28,8 @@ fn lighter_of<M: Measure>(a: Option<Candidate<M>>, b: Option<Candidate<M>>) -> O
     ensures { result ≡ choose M.within a b }
 {
     match (a, b) {
-        (None, b) => b,
-        (Some(x), None) => Some(x),
-        (Some(x), Some(y)) => {
-            if x.weight.at_most(y.weight) {
-                Some(x)
-            } else {
-                Some(y)
-            }
-        }
+        (Some(x), Some(y)) => Some(if x.weight.at_most(y.weight) { x } else { y }),
+        _ => a.or(b),
     }
 }
 
@@ -53,11 +48,17 @@ impl<M: Measure> Hunt<'_, M> {
     // The lightest odd closed walk through the node.
     fn closed_through(&self, start: usize, dist: &mut [M]) -> Option<Candidate<M>>
         requires inside { (1 ≤ start) × (start ≤ self.now.net.now.nodes) }
-        requires room { 2 * self.now.net.now.nodes ≤ length dist.old }
+        requires room { states self.now.net.now ≤ length dist.old }
         ensures { ClosedThrough (task self.now start) result }
     {
         let at = 2 * (start - 1) + 1;
-        let front = Front::search(self, start, dist);
+        let mut front = Front {
+            hunt: self,
+            start,
+            dist,
+            marks: [Mark::Unreached; 128],
+        };
+        front.search();
         let row = front.marks[at].row()?;
         Some(Candidate {
             weight: front.dist[at],
@@ -67,7 +68,7 @@ impl<M: Measure> Hunt<'_, M> {
 
     // The lightest of all starts.
     fn lightest(&self, dist: &mut [M]) -> Option<Candidate<M>>
-        requires { 2 * self.now.net.now.nodes ≤ length dist.old }
+        requires { states self.now.net.now ≤ length dist.old }
         ensures { Lightest (task self.now 1) result }
     {
         let mut best = None;

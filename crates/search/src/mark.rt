@@ -17,10 +17,7 @@ impl Mark {
     pub(crate) fn is_open(self) -> bool
         ensures { result ≡ is_open self }
     {
-        match self {
-            Mark::Open(_) => true,
-            _ => false,
-        }
+        matches!(self, Mark::Open(_))
     }
 
     // The row walked to the state, if it is reached.

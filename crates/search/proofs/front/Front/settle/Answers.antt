@@ -19,6 +19,5 @@ returns-clause-fewer g c =
 
 pub returns-clause-searching : goal.returns-clause-searching
 returns-clause-searching g c =
-    let f = c.args.self.now in
-    turn_ends (task_of f) (lawful f.hunt.now f.start g.met.M.Measure.lawful) _ _ c.args.u _
-    (sym (bounded f.hunt.now f.start).weighed) c.spread.ensures.settling
+    let f = c.spread.new.self in
+    turn_ends (task_of f) (lawful f.hunt.now f.start g.met.M.Measure.lawful) _ _ c.args.u _ (sym (bounded f.hunt.now f.start).weighed) c.spread.ensures.settling

@@ -9,5 +9,5 @@ abbrev pub invariant-loop-place : goal.invariant-loop-place
 invariant-loop-place g l = record {
   same : Same l.initial.self l.self;
   left : unsettled l.self.marks ≡ unsettled l.initial.self.marks;
-  settling : Settling (task_of l.initial.self) l.u l.place l.self.marks l.self.dist.now;
+  settling : Settling (task_of l.self) l.u l.place l.self.marks l.self.dist.now;
 }

@@ -9,7 +9,7 @@ arrival-requires g c =
     let few = h.net.now.few_nodes in
     let pipes = h.net.now.few_pipes in
     let in_net = second_in h c.args.place c.requires in
-    (in_net.0, (omega arith, omega arith))
+    (in_net.0, omega arith, omega arith)
 
 pub arrival-requires-then-ends-node-2 : goal.arrival-requires-then-ends-node-2
 arrival-requires-then-ends-node-2 g c =
@@ -17,7 +17,7 @@ arrival-requires-then-ends-node-2 g c =
     let few = h.net.now.few_nodes in
     let pipes = h.net.now.few_pipes in
     let in_net = first_in h c.args.place c.requires in
-    (in_net.0, (omega arith, omega arith))
+    (in_net.0, omega arith, omega arith)
 
 pub returns-then-ends-node-clause-inside : goal.returns-then-ends-node-clause-inside
 returns-then-ends-node-clause-inside g c =
