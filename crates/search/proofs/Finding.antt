@@ -1,5 +1,5 @@
 -- The lightest candidate of some starts, one start after the other, and of all. Assumes nothing.
-use Rattle.std.proofs.Common.{◌≡◌, ℕ, ◌+◌, ◌-◌, ◌*◌, ◌%◌, ◌<◌, true, false, eqb, List, get_or, Some, None, Option, refl, sym, ap, ◌∙◌, subst, ⊎_elim, arith, below_more}
+use Rattle.std.proofs.Common.{◌≡◌, ℕ, ◌+◌, ◌-◌, ◌*◌, ◌%◌, ◌<◌, true, eqb, List, Some, None, Option, refl, ap, ◌∙◌, ⊎_elim, arith, below_more}
 use borrow.Author.Tests.{eqb-false}
 use Rattle.std.proofs.lemmas.Bool.{cases_Bool, cond-true, cond-false}
 use Rattle.cycle_space.specs.Rows.{Row, add2}

@@ -1,11 +1,11 @@
 -- One relaxed pipe keeps what holds while a state is being settled. Assumes nothing.
-use Rattle.std.proofs.Common.{◌≡◌, ℕ, zero, suc, ◌+◌, ◌*◌, ◌<◌, Bool, true, false, cond, not, ◌≢◌, ◌⊎◌, List, [], ◌∷◌, length, get_or, set, Some, None, Option, sym, refl, ap, ◌∙◌, subst, inl, inr, ⊎_elim, arith, length-set, get_or-set_other, get_or-set_same, below_more}
+use Rattle.std.proofs.Common.{◌≡◌, ℕ, zero, suc, ◌+◌, ◌*◌, ◌<◌, Bool, true, false, cond, not, ◌≢◌, ◌⊎◌, List, [], ◌∷◌, length, set, Some, None, Option, sym, refl, ap, ◌∙◌, subst, inl, inr, ⊎_elim, arith, length-set, get_or-set_other, get_or-set_same, below_more}
 use borrow.Author.Tests.{both_ways}
 use Rattle.std.proofs.lemmas.Bool.{cases_eq, cases_Bool}
 use Rattle.cycle_space.specs.Rows.{Row}
 use Rattle.search.specs.declared.mark.Mark.{Mark}
 use Rattle.search.specs.declared.mark.Mark.TheVariants.{Unreached, Open, Settled}
-use Rattle.search.specs.Marks.{mark, is_reached, is_open, is_settled, reached, opened, settled, row_at, way}
+use Rattle.search.specs.Marks.{mark, is_reached, is_open, is_settled, reached, settled, row_at}
 use Rattle.search.specs.Tasks.{Task, Attained, arc, weight, even_start}
 use Rattle.search.specs.Steps.{turn, better, Entered, Relaxed}
 use Rattle.search.specs.Searches.{at, Eased, Kept, Settling, unsettled}
@@ -191,8 +191,7 @@ relaxed_on {M} t laws step u v i ms d ms' d' s here leads small in_d fits w is q
     ⊎_elim
     (λ yes_better.
     let b = is_better _ _ _ _ yes_better in
-    let e = r.moves yes_better in
-    (
+    let e = r.moves yes_better in (
       entered_on t laws step u v i ms d ms' d' s here leads small b.0 b.1 (moved t u v i _ ms d ms' d' in_d in_ms e),
       ap unsettled e.marks_is ∙ stays_unsettled ms v _ in_ms b.0,
     ))

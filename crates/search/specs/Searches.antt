@@ -1,5 +1,5 @@
 -- What holds of the front during a search, and after it. Assumes nothing.
-use Rattle.std.specs.Prelude.{◌≡◌, ℕ, suc, ◌*◌, ◌<◌, Bool, true, false, ◌≢◌, List, [], ◌∷◌, length, Some, slice_index_or, cond}
+use Rattle.std.specs.Prelude.{◌≡◌, ℕ, suc, ◌*◌, ◌<◌, true, ◌≢◌, List, [], ◌∷◌, length, Some, slice_index_or, cond}
 use Rattle.search.specs.declared.mark.Mark.{Mark}
 use Rattle.search.specs.Tasks.{Task, Attained, Walk, arc, weight, even_start}
 use Rattle.search.specs.Marks.{is_settled, reached, opened, settled, row_at}

@@ -1,6 +1,6 @@
 -- A search task: the measure's members, the shape and weights of the net, the support, and the start. States, where pipes lead to from
 -- them, walks over them, and the rows that attain them. Assumes nothing.
-use Rattle.std.specs.Prelude.{◌≡◌, ℕ, ◌+◌, ◌-◌, ◌*◌, ◌/◌, ◌%◌, ◌<◌, ◌≤◌, Bool, true, cond, List, map, length, Some, None, Option, ◌==◌, slice_index_or}
+use Rattle.std.specs.Prelude.{◌≡◌, ℕ, ◌+◌, ◌-◌, ◌*◌, ◌/◌, ◌%◌, ◌<◌, ◌≤◌, Bool, true, cond, List, length, Some, None, Option, ◌==◌, slice_index_or}
 use Rattle.cycle_space.specs.Rows.{Row, bit, add2, odd}
 use Rattle.cycle_space.specs.Shapes.{Shape, Node, EndsAreNodes}
 use Rattle.cycle_space.specs.Moments.{weight_from}

@@ -38,11 +38,8 @@ impl<M: Measure> Hunt<'_, M> {
     fn starts(&self, node: usize) -> bool
         ensures { result ≡ false → Start (task self.now node) node → ⊥ }
     {
-        self.net
-            .ends
-            .iter()
-            .enumerate()
-            .any(|(place, ends)| ends.first == node && has(self.support, place + 1))
+        self.net.ends.iter().enumerate().any(|(place, ends)| ends.first == node
+            && has(self.support, place + 1))
     }
 
     // The lightest odd closed walk through the node.
@@ -95,7 +92,9 @@ pub fn lightest_odd<M: Measure>(
     M::join_keeps_order();
     let hunt = Hunt { net, support };
     let found = hunt.lightest(scratch);
-    Ok(found.map(|found| -> [u64; 4]
-        ensures { result ≡ found.row }
-    { found.row }))
+    Ok(found.map(
+        |found| -> [u64; 4]
+            ensures { result ≡ found.row }
+        { found.row },
+    ))
 }

@@ -1,5 +1,5 @@
 use Rattle.search.specs.Tasks.{task_of}
-use Rattle.search.proofs.Laying.{lawful, same_then}
+use Rattle.search.proofs.Laying.{lawful}
 use Rattle.search.proofs.Turns.{finished}
 use Rattle.search.proofs.front.Front.search.Goals as goal
 

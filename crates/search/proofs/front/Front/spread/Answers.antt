@@ -1,7 +1,6 @@
-use Rattle.std.proofs.Common.{◌≡◌, ◌*◌, ◌<◌, length, sym, ap, ◌∙◌, arith}
+use Rattle.std.proofs.Common.{◌≡◌, ◌<◌, length, sym, ap, ◌∙◌, arith}
 use Rattle.std.proofs.lemmas.List.{get_or_read}
-use Rattle.search.specs.Tasks.{task, task_of, arc, weight}
-use Rattle.search.specs.Searches.{Settling}
+use Rattle.search.specs.Tasks.{task_of, arc}
 use Rattle.search.proofs.Attaining.{stepping}
 use Rattle.search.proofs.Laying.{pipes_seen, sound, lawful, same_task, same_then}
 use Rattle.search.proofs.Relaxing.{relaxed_on, passed_on}
@@ -28,7 +27,7 @@ loop-place-preserved g c =
           let room = f.room in
           let few = h.net.now.few_nodes in
           let r = relaxed_on t laws (stepping t laws (sound h f.start f.start_in.0 f.start_in.1)) c.args.u w.in-Some.v i f.marks f.dist.now _ _
-              inv.settling (omega arith) (leads ∙ w.in-Some.is) inside (omega arith) (omega arith) _ read w.relax.ensures.relaxed in
+          inv.settling (omega arith) (leads ∙ w.in-Some.is) inside (omega arith) (omega arith) _ read w.relax.ensures.relaxed in
           rw (w.self-is, same_task w.relax.ensures.same) (record { same = same_then inv.same w.relax.ensures.same; left = r.1 ∙ inv.left; settling = r.0 })
       | in_default w ↦
           rw w.self-is (record { same = inv.same; left = inv.left; settling = passed_on t _ _ _ _ inv.settling (leads ∙ w.in_default.is) })
