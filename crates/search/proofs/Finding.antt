@@ -1,5 +1,5 @@
 -- The lightest candidate of some starts, one start after the other, and of all. Assumes nothing.
-use Rattle.std.proofs.Common.{◌≡◌, ℕ, ◌+◌, ◌-◌, ◌*◌, ◌%◌, ◌<◌, true, eqb, List, Some, None, Option, refl, ap, ◌∙◌, ⊎_elim, arith, below_more}
+use Rattle.std.proofs.Common.{◌≡◌, ℕ, ◌+◌, ◌-◌, ◌*◌, ◌%◌, ◌<◌, eqb, List, Some, None, Option, ap, ◌∙◌, ⊎_elim, arith, below_more}
 use borrow.Author.Tests.{eqb-false}
 use Rattle.std.proofs.lemmas.Bool.{cases_Bool, cond-true, cond-false}
 use Rattle.cycle_space.specs.Rows.{Row, add2}
@@ -7,19 +7,13 @@ use Rattle.cycle_space.specs.Bases.{touching}
 use Rattle.cycle_space.proofs.Booleans.{add2_same}
 use Rattle.search.specs.Tasks.{Task, Bounded, Sound, Attained, node, odd_start}
 use Rattle.search.specs.declared.mark.Mark.{Mark}
-use Rattle.search.specs.Marks.{mark, is_reached, walked}
-use Rattle.search.specs.declared.mark.Mark.TheVariants.{Unreached, Open, Settled}
-use Rattle.search.proofs.Turns.{walked_way}
+use Rattle.search.specs.Marks.{mark, walked}
+use Rattle.search.proofs.Marking.{walked_reached, walked_way}
 use Rattle.search.specs.Searches.{Shortest, at}
 use Rattle.search.specs.Finds.{at_start, Start, choose, Good, ClosedThrough, Least, Lightest}
 use Rattle.search.specs.declared.lightest.Candidate.{Candidate}
 use Rattle.search.proofs.Measuring.{Lawful, heavier}
 use Rattle.search.proofs.Rings.{round_of}
-
-walked_reached : (m : Mark) (x : Row) → walked m ≡ Some x → is_reached m ≡ true
-walked_reached Unreached x e = cc
-walked_reached (Open y) x e = refl
-walked_reached (Settled y) x e = refl
 
 module _ {M : Type 0} (t : Task M) where
   -- the row that attains the odd start is closed

@@ -1,5 +1,5 @@
 -- What a hunt keeps, and how its layout is read. Assumes nothing.
-use Rattle.std.proofs.Common.{◌≡◌, ℕ, ◌<◌, ◌≤◌, List, map, length, get_or, sym, ◌∙◌, subst, ap₂, arith}
+use Rattle.std.proofs.Common.{◌≡◌, ℕ, ◌<◌, ◌≤◌, List, map, length, get_or, sym, ◌∙◌, ap₂, arith}
 use Rattle.std.proofs.lemmas.List.{length-map, get_or-map}
 use Rattle.measures.specs.Laws.{Laws}
 use Rattle.measures.specs.declared.measure.Measure.{Ghosts}
@@ -7,6 +7,9 @@ use Rattle.cycle_space.specs.declared.ends.Ends.{Ends}
 use Rattle.search.specs.Layouts.{nowhere}
 use Rattle.search.specs.Tasks.{Bounded, Sound, task, task_of}
 use Rattle.search.specs.Steps.{Same}
+use Rattle.cycle_space.specs.Shapes.{Node}
+use Rattle.search.specs.Sought.{plan}
+use Rattle.search.specs.declared.layout.Layout.{Layout}
 use Rattle.search.specs.declared.hunt.Hunt.{Hunt}
 use Rattle.search.specs.declared.front.Front.{Front}
 use Rattle.search.proofs.Measuring.{Lawful}
@@ -35,16 +38,19 @@ module _ {M : Type 0} {m : Ghosts M} (h : Hunt M m) (s : ℕ) where
   pub lawful : Laws m.zero m.ceiling m.join m.within → Lawful (task h s)
   lawful base = record { ceiling = m.ceiling; base = base; order = h.order }
 
-module _ {M : Type 0} {m : Ghosts M} (h : Hunt M m) (j : ℕ) (here : j < length h.net.now.ends.now) where
-  pub first_in : (1 ≤ (get_or h.net.now.ends.now j nowhere).first) × ((get_or h.net.now.ends.now j nowhere).first ≤ h.net.now.nodes)
-  first_in =
-      let long = pipes_seen h.net.now.ends.now in
-      subst (λ v. (1 ≤ v) × (v ≤ h.net.now.nodes)) (end_seen (λ e. e.first) h.net.now.ends.now j here) (h.net.now.ends_in j (omega arith)).0
+-- the ends of a pipe are nodes
+pub ends_in : {M : Type 0} (l : Layout M) (j : ℕ) → j < length l.ends.now → Node (plan l) (get_or l.ends.now j nowhere).first × Node (plan l) (get_or l.ends.now j nowhere).second
+ends_in l j here =
+    let long = pipes_seen l.ends.now in
+    let k = l.ends_in j (omega arith) in
+    (rw (← end_seen (λ e. e.first) l.ends.now j here) k.0, rw (← end_seen (λ e. e.second) l.ends.now j here) k.1)
 
-  pub second_in : (1 ≤ (get_or h.net.now.ends.now j nowhere).second) × ((get_or h.net.now.ends.now j nowhere).second ≤ h.net.now.nodes)
-  second_in =
-      let long = pipes_seen h.net.now.ends.now in
-      subst (λ v. (1 ≤ v) × (v ≤ h.net.now.nodes)) (end_seen (λ e. e.second) h.net.now.ends.now j here) (h.net.now.ends_in j (omega arith)).1
+module _ {M : Type 0} {m : Ghosts M} (f : Front M m) where
+  pub laws_of : Laws m.zero m.ceiling m.join m.within → Lawful (task_of f)
+  laws_of base = lawful f.hunt.now f.start base
+
+  pub sound_of : Sound (task_of f)
+  sound_of = sound f.hunt.now f.start f.start_in.0 f.start_in.1
 
 module _ {M : Type 0} {m : Ghosts M} {f g : Front M m} (s : Same f g) where
   pub same_task : task_of g ≡ task_of f

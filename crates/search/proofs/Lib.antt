@@ -1,5 +1,7 @@
 -- The lemmas, each file above those that use it. Assumes nothing.
 pub mod Measuring
+pub mod Marking
+pub mod Picks
 pub mod Relaxing
 pub mod Turns
 pub mod Sets

@@ -1,5 +1,5 @@
 -- One relaxed pipe keeps what holds while a state is being settled. Assumes nothing.
-use Rattle.std.proofs.Common.{◌≡◌, ℕ, zero, suc, ◌+◌, ◌*◌, ◌<◌, Bool, true, false, cond, not, ◌≢◌, ◌⊎◌, List, [], ◌∷◌, length, set, Some, None, Option, sym, refl, ap, ◌∙◌, subst, inl, inr, ⊎_elim, arith, length-set, get_or-set_other, get_or-set_same, below_more}
+use Rattle.std.proofs.Common.{◌≡◌, ℕ, ◌+◌, ◌*◌, ◌<◌, Bool, true, false, ◌≢◌, ◌⊎◌, List, length, Some, None, Option, sym, refl, ap, ◌∙◌, subst, inl, inr, ⊎_elim, arith, length-set, get_or-set_other, get_or-set_same, below_more}
 use borrow.Author.Tests.{both_ways}
 use Rattle.std.proofs.lemmas.Bool.{cases_eq, cases_Bool}
 use Rattle.cycle_space.specs.Rows.{Row}
@@ -10,34 +10,25 @@ use Rattle.search.specs.Tasks.{Task, Attained, arc, weight, even_start}
 use Rattle.search.specs.Steps.{turn, better, Entered, Relaxed}
 use Rattle.search.specs.Searches.{at, Eased, Kept, Settling, unsettled}
 use Rattle.search.proofs.Measuring.{Lawful, self, grows}
+use Rattle.search.proofs.Marking.{settled_reached, open_counts}
 
 -- a row that attains a state attains the next with one more pipe
 abbrev pub Stepping : {M : Type 0} → Task M → Type 0
-Stepping {M} t = (u v j : ℕ) (x : Row) (e : M) → j < t.shape.pipes → arc t u j ≡ Some v → Attained t u x e → Attained t v (turn x j) (t.join e (weight t j))
-
-pub settled_reached : (m : Mark) → is_settled m ≡ true → is_reached m ≡ true
-settled_reached Unreached e = absurd (both_ways true (sym e) refl)
-settled_reached (Open x) e = refl
-settled_reached (Settled x) e = refl
-
--- a state that is not settled stays so where it is opened
-stays_unsettled : (ms : List Mark) (v : ℕ) (x : Row) → v < length ms → settled ms v ≡ false → unsettled (set ms v (Open x)) ≡ unsettled ms
-stays_unsettled [] v x h e = absurd (omega arith)
-stays_unsettled (m ∷ ms) zero x h e = rw e refl
-stays_unsettled (m ∷ ms) (suc v) x h e = ap (λ n. cond (is_settled m) n (suc n)) (stays_unsettled ms v x (omega arith) e)
+Stepping {M} t = (u v j : ℕ) (x : Row) (e : M) → j < t.shape.pipes → arc t.shape t.support u j ≡ Some v → Attained t u x e → Attained t v (turn x j) (t.join e (weight t j))
 
 some_same : (o : Option ℕ) (v w : ℕ) → o ≡ Some v → o ≡ Some w → w ≡ v
 some_same o v w p q = cc
 
-not_better : {M : Type 0} (within : M → M → Bool) (m : Mark) (d reach : M) → better within m d reach ≡ false → (is_settled m ≡ true) ⊎ ((is_reached m ≡ true) × (within d reach ≡ true))
-not_better within Unreached d reach e = absurd (both_ways true e refl)
-not_better within (Open x) d reach e = ⊎_elim (λ h. inr (refl, h)) (λ h. absurd (both_ways _ e (ap not h))) (cases_Bool (within d reach))
-not_better within (Settled x) d reach e = inl refl
+module _ {M : Type 0} (within : M → M → Bool) where
+  not_better : (m : Mark) (d reach : M) → better within m d reach ≡ false → (is_settled m ≡ true) ⊎ ((is_reached m ≡ true) × (within d reach ≡ true))
+  not_better Unreached d reach e = cc
+  not_better (Open x) d reach e = ⊎_elim (λ h. inr (refl, h)) (λ h. cc) (cases_Bool (within d reach))
+  not_better (Settled x) d reach e = inl refl
 
-is_better : {M : Type 0} (within : M → M → Bool) (m : Mark) (d reach : M) → better within m d reach ≡ true → (is_settled m ≡ false) × (is_reached m ≡ true → within d reach ≡ false)
-is_better within Unreached d reach e = (refl, λ h. absurd (both_ways true (sym h) refl))
-is_better within (Open x) d reach e = (refl, λ _. ⊎_elim (λ h. absurd (both_ways _ (ap not h) e)) (λ h. h) (cases_Bool (within d reach)))
-is_better within (Settled x) d reach e = absurd (both_ways true (sym e) refl)
+  is_better : (m : Mark) (d reach : M) → better within m d reach ≡ true → (is_settled m ≡ false) × (is_reached m ≡ true → within d reach ≡ false)
+  is_better Unreached d reach e = (refl, λ h. cc)
+  is_better (Open x) d reach e = (refl, λ _. ⊎_elim (λ h. cc) (λ h. h) (cases_Bool (within d reach)))
+  is_better (Settled x) d reach e = cc
 
 -- what an entered state changes, by places
 pub record Moved {M : Type 0} (t : Task M) (u v j : ℕ) (reach : M) (ms : List Mark) (d : List M) (ms' : List Mark) (d' : List M) : Type 0 where
@@ -58,7 +49,7 @@ moved t u v j reach ms d ms' d' in_d in_ms e =
     }
 
 module _ {M : Type 0} (t : Task M) (laws : Lawful t) (step : Stepping t) (u v i : ℕ) (ms : List Mark) (d : List M) (ms' : List Mark) (d' : List M)
-    (before : Settling t u i ms d) (here : i < t.shape.pipes) (leads : arc t u i ≡ Some v) (small : v < 2 * t.shape.nodes)
+    (before : Settling t u i ms d) (here : i < t.shape.pipes) (leads : arc t.shape t.support u i ≡ Some v) (small : v < 2 * t.shape.nodes)
     (fresh : settled ms v ≡ false)
     (lighter : reached ms v ≡ true → t.within (at t d v) (t.join (at t d u) (weight t i)) ≡ false)
     (m : Moved t u v i (t.join (at t d u) (weight t i)) ms d ms' d') where
@@ -151,51 +142,48 @@ module _ {M : Type 0} (t : Task M) (laws : Lawful t) (step : Stepping t) (u v i 
         subst P (sym e) (reached_new, rw (m.d_new, still u before.mine) (self laws.base _)));
   }
 
--- where the other state does not improve
-pub stayed_on : {M : Type 0} (t : Task M) → Lawful t → (u v i : ℕ) (ms : List Mark) (d : List M) → Settling t u i ms d → arc t u i ≡ Some v
-    → better t.within (mark ms v) (at t d v) (t.join (at t d u) (weight t i)) ≡ false → Settling t u (i + 1) ms d
-stayed_on t laws u v i ms d s leads no_better = record {
-  kept = s.kept;
-  mine = s.mine;
-  before = s.before;
-  after = s.after;
-  eased = s.eased;
-  done = below_more _ _ s.done (λ w a.
+module _ {M : Type 0} {t : Task M} {u i : ℕ} {ms : List Mark} {d : List M} (s : Settling t u i ms d) where
+  -- where the pipe i is done too
+  one_more : Eased t ms d u i → Settling t u (i + 1) ms d
+  one_more e = record {
+    kept = s.kept;
+    mine = s.mine;
+    before = s.before;
+    after = s.after;
+    eased = s.eased;
+    done = below_more _ _ s.done e;
+  }
+
+  -- where the pipe does not lie at u
+  pub passed_on : arc t.shape t.support u i ≡ None → Settling t u (i + 1) ms d
+  passed_on no_arc = one_more (λ w a. cc)
+
+  -- where the other state does not improve
+  stayed_on : Lawful t → (v : ℕ) → arc t.shape t.support u i ≡ Some v
+      → better t.within (mark ms v) (at t d v) (t.join (at t d u) (weight t i)) ≡ false → Settling t u (i + 1) ms d
+  stayed_on laws v leads no_better = one_more (λ w a.
       let e : w ≡ v = some_same _ _ _ leads a in
       let P : ℕ → Type 0 = λ n. (reached ms n ≡ true) × (t.within (at t d n) (t.join (at t d u) (weight t i)) ≡ true) in
       subst P (sym e) (⊎_elim
       (λ sv. (settled_reached _ sv, laws.base.trans _ _ _ (s.before v sv) (grows laws _ _)))
       (λ h. h)
-      (not_better _ _ _ _ no_better)));
-}
+      (not_better _ _ _ _ no_better)))
 
--- where the pipe does not lie at u
-pub passed_on : {M : Type 0} (t : Task M) (u i : ℕ) (ms : List Mark) (d : List M) → Settling t u i ms d → arc t u i ≡ None → Settling t u (i + 1) ms d
-passed_on t u i ms d s no_arc = record {
-  kept = s.kept;
-  mine = s.mine;
-  before = s.before;
-  after = s.after;
-  eased = s.eased;
-  done = below_more _ _ s.done (λ w a. let z : ◌≡◌ {A = ℕ} 0 1 = cc in absurd (omega arith));
-}
-
-pub relaxed_on : {M : Type 0} (t : Task M) → Lawful t → Stepping t → (u v i : ℕ) (ms : List Mark) (d : List M) (ms' : List Mark) (d' : List M)
-    → Settling t u i ms d → i < t.shape.pipes → arc t u i ≡ Some v → v < 2 * t.shape.nodes → v < length d → v < 128
-    → (w : M) → w ≡ weight t i → Relaxed t.none t.join t.within ms d u v i w ms' d'
-    → Settling t u (i + 1) ms' d' × (unsettled ms' ≡ unsettled ms)
-relaxed_on {M} t laws step u v i ms d ms' d' s here leads small in_d fits w is q =
-    let in_ms : v < length ms = let e = s.kept.marks_sized in omega arith in
-    let P : M → Type 0 = λ y. Relaxed t.none t.join t.within ms d u v i y ms' d' in
-    let r = subst P is q in
-    ⊎_elim
-    (λ yes_better.
-    let b = is_better _ _ _ _ yes_better in
-    let e = r.moves yes_better in (
-      entered_on t laws step u v i ms d ms' d' s here leads small b.0 b.1 (moved t u v i _ ms d ms' d' in_d in_ms e),
-      ap unsettled e.marks_is ∙ stays_unsettled ms v _ in_ms b.0,
-    ))
-    (λ no_better.
-    let e = r.stays no_better in
-    (rw (e.0, e.1) (stayed_on t laws u v i ms d s leads no_better), ap unsettled e.0))
-    (cases_Bool (better t.within (mark ms v) (at t d v) (t.join (at t d u) (weight t i))))
+  pub relaxed_on : Lawful t → Stepping t → (v : ℕ) (ms' : List Mark) (d' : List M)
+      → i < t.shape.pipes → arc t.shape t.support u i ≡ Some v → v < 2 * t.shape.nodes → v < length d → v < 128
+      → (w : M) → w ≡ weight t i → Relaxed t.none t.join t.within ms d u v i w ms' d'
+      → Settling t u (i + 1) ms' d' × (unsettled ms' ≡ unsettled ms)
+  relaxed_on laws step v ms' d' here leads small in_d fits w is q =
+      let in_ms : v < length ms = let e = s.kept.marks_sized in omega arith in
+      let r = rw is at q in
+      ⊎_elim
+      (λ yes_better.
+      let b = is_better _ _ _ _ yes_better in
+      let e = r.moves yes_better in (
+        entered_on t laws step u v i ms d ms' d' s here leads small b.0 b.1 (moved t u v i _ ms d ms' d' in_d in_ms e),
+        ap unsettled e.marks_is ∙ open_counts ms v _ in_ms b.0,
+      ))
+      (λ no_better.
+      let e = r.stays no_better in
+      (rw (e.0, e.1) (stayed_on laws v leads no_better), ap unsettled e.0))
+      (cases_Bool (better t.within (mark ms v) (at t d v) (t.join (at t d u) (weight t i))))

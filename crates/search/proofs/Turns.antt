@@ -1,44 +1,20 @@
 -- How a turn of the search begins and ends, that the turns end, and what holds when they have. Assumes nothing.
-use Rattle.std.proofs.Common.{◌≡◌, ℕ, zero, suc, ◌*◌, ◌<◌, ◌≤◌, true, false, ◌≢◌, List, [], ◌∷◌, length, set, Some, sym, refl, ap, ◌∙◌, subst, ⊎_elim, arith, length-set, get_or-set_other, get_or-set_same}
+use Rattle.std.proofs.Common.{◌≡◌, ℕ, ◌*◌, ◌<◌, ◌≤◌, true, ◌≢◌, List, length, set, Some, sym, ap, ◌∙◌, subst, ⊎_elim, arith, length-set, get_or-set_other, get_or-set_same}
 use borrow.Author.Tests.{both_ways}
-use Rattle.std.proofs.lemmas.Bool.{cases_eq, cases_Bool}
+use Rattle.std.proofs.lemmas.Bool.{cases_eq}
 use Rattle.cycle_space.specs.Rows.{Row}
 use Rattle.search.specs.declared.mark.Mark.{Mark}
-use Rattle.search.specs.declared.mark.Mark.TheVariants.{Unreached, Open, Settled}
+use Rattle.search.specs.declared.mark.Mark.TheVariants.{Unreached, Settled}
 use Rattle.search.specs.Marks.{is_settled, is_open, is_reached, mark, reached, opened, settled, row_at, way, walked}
 use Rattle.search.specs.Fronts.{Nearest}
 use Rattle.search.specs.Tasks.{Task, Walk, stay, cross}
 use Rattle.search.specs.Searches.{at, Eased, Kept, Settling, Searching, Shortest, unsettled}
 use Rattle.search.proofs.Measuring.{Lawful, self}
+use Rattle.search.proofs.Marking.{open_reached, reached_settled, walked_way, settled_counts}
 
-open_reached : (m : Mark) → is_open m ≡ true → is_reached m ≡ true
-open_reached Unreached e = absurd (both_ways true (sym e) refl)
-open_reached (Open x) e = refl
-open_reached (Settled x) e = absurd (both_ways true (sym e) refl)
-
-open_unsettled : (m : Mark) → is_open m ≡ true → is_settled m ≡ false
-open_unsettled Unreached e = refl
-open_unsettled (Open x) e = refl
-open_unsettled (Settled x) e = absurd (both_ways true (sym e) refl)
-
-reached_settled : (m : Mark) → is_reached m ≡ true → (is_open m ≡ true → ⊥) → is_settled m ≡ true
-reached_settled Unreached e not = absurd (both_ways true (sym e) refl)
-reached_settled (Open x) e not = absurd (not refl)
-reached_settled (Settled x) e not = refl
-
-pub walked_way : (m : Mark) (x : Row) → walked m ≡ Some x → way m ≡ x
-walked_way Unreached x e = cc
-walked_way (Open y) x e = cc
-walked_way (Settled y) x e = cc
-
-falls : (ms : List Mark) (u : ℕ) (x : Row) → u < length ms → opened ms u ≡ true → unsettled (set ms u (Settled x)) < unsettled ms
-falls [] u x h e = absurd (omega arith)
-falls (m ∷ ms) zero x h e = rw (open_unsettled m e) (omega arith)
-falls (m ∷ ms) (suc u) x h e = let ih = falls ms u x (omega arith) e in ⊎_elim (λ q. rw q ih) (λ q. rw q (omega arith)) (cases_Bool (is_settled m))
-
-module _ {M : Type 0} (t : Task M) (laws : Lawful t) where
-  module _ (ms : List Mark) (d : List M) (u : ℕ) (s : Searching t ms d) (few : t.shape.nodes ≤ 64)
-      (near : Nearest t.none t.within d ms (2 * t.shape.nodes) u) (x : Row) (is : walked (mark ms u) ≡ Some x) where
+module _ {M : Type 0} {t : Task M} (laws : Lawful t) where
+  module _ {ms : List Mark} {d : List M} {u : ℕ} (s : Searching t ms d) (few : t.shape.nodes ≤ 64)
+      (near : Nearest t.none t.within d ms (2 * t.shape.nodes) u) {x : Row} (is : walked (mark ms u) ≡ Some x) where
     abbrev marked : List Mark
     marked = set ms u (Settled x)
 
@@ -49,7 +25,7 @@ module _ {M : Type 0} (t : Task M) (laws : Lawful t) where
     now = get_or-set_same ms u (Settled x) Unreached in_marks
 
     pub one_less : unsettled marked < unsettled ms
-    one_less = falls ms u x in_marks near.opens
+    one_less = settled_counts ms u x in_marks near.opens
 
     same : (k : ℕ) → k ≢ u → mark marked k ≡ mark ms k
     same k ne = get_or-set_other ms u k (Settled x) Unreached ne
@@ -97,8 +73,8 @@ module _ {M : Type 0} (t : Task M) (laws : Lawful t) where
       done = λ j h. absurd (omega arith);
     }
 
-  pub turn_ends : (ms : List Mark) (d : List M) (u n : ℕ) → t.shape.pipes ≡ n → Settling t u n ms d → Searching t ms d
-  turn_ends ms d u n all s = record {
+  pub turn_ends : {ms : List Mark} {d : List M} {u n : ℕ} → t.shape.pipes ≡ n → Settling t u n ms d → Searching t ms d
+  turn_ends {ms} {d} {u} {n} all s = record {
     kept = s.kept;
     order = λ a b h o. laws.base.trans _ _ _ (s.before a h) (s.after b o);
     eased = λ k h j below. ⊎_elim
@@ -107,7 +83,7 @@ module _ {M : Type 0} (t : Task M) (laws : Lawful t) where
         (cases_eq k u);
   }
 
-  module _ (ms : List Mark) (d : List M) (s : Searching t ms d) (none_left : (k : ℕ) → k < 2 * t.shape.nodes → opened ms k ≡ true → ⊥) where
+  module _ {ms : List Mark} {d : List M} (s : Searching t ms d) (none_left : (k : ℕ) → k < 2 * t.shape.nodes → opened ms k ≡ true → ⊥) where
     walks : {v : ℕ} {c : M} → Walk t v c → (reached ms v ≡ true) × (t.within (at t d v) c ≡ true)
     walks stay = (s.kept.start_reached, rw s.kept.start_zero (laws.base.least _))
     walks (cross {u} {c} j v w below leads) =

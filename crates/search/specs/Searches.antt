@@ -1,5 +1,5 @@
 -- What holds of the front during a search, and after it. Assumes nothing.
-use Rattle.std.specs.Prelude.{◌≡◌, ℕ, suc, ◌*◌, ◌<◌, true, ◌≢◌, List, [], ◌∷◌, length, Some, slice_index_or, cond}
+use Rattle.std.specs.Prelude.{◌≡◌, ℕ, ◌*◌, ◌<◌, true, not, ◌≢◌, List, length, Some, count_by, slice_index_or}
 use Rattle.search.specs.declared.mark.Mark.{Mark}
 use Rattle.search.specs.Tasks.{Task, Attained, Walk, arc, weight, even_start}
 use Rattle.search.specs.Marks.{is_settled, reached, opened, settled, row_at}
@@ -10,7 +10,7 @@ at t d k = slice_index_or d k t.none
 
 -- the state across the pipe at the place j from u, if any, is reached, and no farther than by way of u
 abbrev pub Eased : {M : Type 0} → Task M → List Mark → List M → ℕ → ℕ → Type 0
-Eased t ms d u j = (v : ℕ) → arc t u j ≡ Some v → (reached ms v ≡ true) × (t.within (at t d v) (t.join (at t d u) (weight t j)) ≡ true)
+Eased t ms d u j = (v : ℕ) → arc t.shape t.support u j ≡ Some v → (reached ms v ≡ true) × (t.within (at t d v) (t.join (at t d u) (weight t j)) ≡ true)
 
 -- what holds of the front at all times
 pub record Kept {M : Type 0} (t : Task M) (ms : List Mark) (d : List M) : Type 0 where
@@ -42,5 +42,4 @@ pub record Shortest {M : Type 0} (t : Task M) (ms : List Mark) (d : List M) : Ty
 
 -- how many states are not settled
 abbrev pub unsettled : List Mark → ℕ
-unsettled [] = 0
-unsettled (m ∷ ms) = cond (is_settled m) (unsettled ms) (suc (unsettled ms))
+unsettled ms = count_by (λ m. not (is_settled m)) ms

@@ -62,10 +62,10 @@ abbrev pub arrival : Row → ℕ → ℕ → ℕ → ℕ
 arrival support v u j = cond (bit support j) (state v (1 - u % 2)) (state v (u % 2))
 
 -- the state on the other side of the pipe at the place j from the state u, where the pipe lies at u's node
-abbrev pub arc : {M : Type 0} → Task M → ℕ → ℕ → Option ℕ
-arc t u j =
-    cond (t.shape.first j == node u) (Some (arrival t.support (t.shape.second j) u j))
-    (cond (t.shape.second j == node u) (Some (arrival t.support (t.shape.first j) u j)) None)
+abbrev pub arc : Shape → Row → ℕ → ℕ → Option ℕ
+arc N support u j =
+    cond (N.first j == node u) (Some (arrival support (N.second j) u j))
+    (cond (N.second j == node u) (Some (arrival support (N.first j) u j)) None)
 
 -- the weight of the pipe at the place j
 abbrev pub weight : {M : Type 0} → Task M → ℕ → M
@@ -81,7 +81,7 @@ odd_start t = 2 * (t.start - 1) + 1
 -- a walk from the even start to a state, with the joined weight of its crossings
 pub data Walk {M : Type 0} (t : Task M) : ℕ → M → Type 0 where
   stay : Walk t (even_start t) t.none
-  cross : {u : ℕ} {c : M} (j v : ℕ) → Walk t u c → j < t.shape.pipes → arc t u j ≡ Some v → Walk t v (t.join c (weight t j))
+  cross : {u : ℕ} {c : M} (j v : ℕ) → Walk t u c → j < t.shape.pipes → arc t.shape t.support u j ≡ Some v → Walk t v (t.join c (weight t j))
 
 -- the weight of a row
 abbrev pub row_weight : {M : Type 0} → Task M → Row → M

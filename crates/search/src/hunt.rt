@@ -18,7 +18,8 @@ impl<M: Measure> Hunt<'_, M> {
     ghost use Rattle.std.specs.Prelude.{◌≡◌, ◌*◌, ◌<◌, ◌≤◌, length};
     ghost use Rattle.search.specs.Layouts.{states};
     ghost use Rattle.search.specs.Fronts.{Inside};
-    ghost use Rattle.search.specs.Tasks.{task, arc, arrival};
+    ghost use Rattle.search.specs.Sought.{plan};
+    ghost use Rattle.search.specs.Tasks.{arc, arrival};
 
     // The state at the node, come to from the state u over the pipe at the place.
     fn arrival(&self, node: usize, u: usize, place: usize) -> usize
@@ -35,7 +36,7 @@ impl<M: Measure> Hunt<'_, M> {
     // The state on the other side of the pipe at the place from the state u, if the pipe lies at u's node.
     pub(crate) fn across(&self, u: usize, place: usize) -> Option<usize>
         requires { place < length self.now.net.now.ends.now }
-        ensures leads { result ≡ arc (task self.now 1) u place }
+        ensures leads { result ≡ arc (plan self.now.net.now) self.now.support u place }
         ensures inside { Inside (states self.now.net.now) result }
     {
         let node = u / 2 + 1;

@@ -1,8 +1,8 @@
 use Rattle.std.proofs.Common.{◌≡◌, ◌<◌, length, sym, ap, ◌∙◌, arith}
 use Rattle.std.proofs.lemmas.List.{get_or_read}
-use Rattle.search.specs.Tasks.{task_of, arc}
+use Rattle.search.specs.Tasks.{task_of}
 use Rattle.search.proofs.Attaining.{stepping}
-use Rattle.search.proofs.Laying.{pipes_seen, sound, lawful, same_task, same_then}
+use Rattle.search.proofs.Laying.{laws_of, sound_of, same_task, same_then}
 use Rattle.search.proofs.Relaxing.{relaxed_on, passed_on}
 use Rattle.search.proofs.front.Front.spread.Goals as goal
 use Rattle.search.proofs.front.Front.spread.Goals.{in-Some, in_default}
@@ -10,27 +10,25 @@ use Rattle.search.proofs.front.Front.spread.Goals.{in-Some, in_default}
 pub loop-place-preserved : goal.loop-place-preserved
 loop-place-preserved g c =
     let f = c.loop-place.self in
-    let h = f.hunt.now in
     let t = task_of f in
-    let laws = lawful h f.start g.met.M.Measure.lawful in
     let i = c.loop-place.place in
     let inv = c.loop-place.invariant in
-    let leads : arc t c.args.u i ≡ c.across.result = sym c.across.ensures.leads in
     elim c.match-across.branch [
       | in-Some w ↦
-          let weighed = h.net.now.weighed in
-          let seen = pipes_seen h.net.now.ends.now in
+          let laws = laws_of f g.met.M.Measure.lawful in
+          let sound = sound_of f in
           let same = ap (λ k. k.now.net.now.weights.now) inv.same.hunt in
           let below : i < length t.weights = rw same c.loop-place-test.true in
           let read = get_or_read t.weights i c.weight-item.result below (rw same c.weight-item.is) t.none in
           let inside = w.in-Some.ensures.inside in
           let room = f.room in
-          let few = h.net.now.few_nodes in
-          let r = relaxed_on t laws (stepping t laws (sound h f.start f.start_in.0 f.start_in.1)) c.args.u w.in-Some.v i f.marks f.dist.now _ _
-          inv.settling (omega arith) (leads ∙ w.in-Some.is) inside (omega arith) (omega arith) _ read w.relax.ensures.relaxed in
+          let few = sound.net.few_nodes in
+          let weighed = sound.net.weighed in
+          let r = relaxed_on inv.settling laws (stepping t laws sound) w.in-Some.v _ _
+          (omega arith) (sym c.across.ensures.leads ∙ w.in-Some.is) inside (omega arith) (omega arith) _ read w.relax.ensures.relaxed in
           rw (w.self-is, same_task w.relax.ensures.same) (record { same = same_then inv.same w.relax.ensures.same; left = r.1 ∙ inv.left; settling = r.0 })
       | in_default w ↦
-          rw w.self-is (record { same = inv.same; left = inv.left; settling = passed_on t _ _ _ _ inv.settling (leads ∙ w.in_default.is) })
+          rw w.self-is (record { same = inv.same; left = inv.left; settling = passed_on inv.settling (sym c.across.ensures.leads ∙ w.in_default.is) })
     ]
 
 pub returns-clause-settling : goal.returns-clause-settling
