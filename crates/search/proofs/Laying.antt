@@ -57,4 +57,4 @@ module _ {M : Type 0} {m : Ghosts M} {f g : Front M m} (s : Same f g) where
   same_task = ap₂ (λ k i. task k.now i) s.hunt s.start
 
   pub same_then : {h : Front M m} → Same g h → Same f h
-  same_then t = record { hunt = t.hunt ∙ s.hunt; start = t.start ∙ s.start; lent = t.lent ∙ s.lent }
+  same_then t = record { hunt = t.hunt ∙ s.hunt; start = t.start ∙ s.start }

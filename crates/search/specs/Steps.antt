@@ -31,4 +31,3 @@ pub record Relaxed {M : Type 0} (none : M) (join : M → M → M) (within : M �
 pub record Same {M : Type 0} {m : Ghosts M} (f f' : Front M m) : Type 0 where
   pub hunt : f'.hunt ≡ f.hunt
   pub start : f'.start ≡ f.start
-  pub lent : f'.dist.ghost_name ≡ f.dist.ghost_name
