@@ -6,7 +6,6 @@ use Rattle.measures.specs.declared.measure.Measure.{Ghosts}
 use Rattle.cycle_space.specs.declared.ends.Ends.{Ends}
 use Rattle.search.specs.Layouts.{nowhere}
 use Rattle.search.specs.Tasks.{Bounded, Sound, task, task_of}
-use Rattle.search.specs.Steps.{Same}
 use Rattle.cycle_space.specs.Shapes.{Node}
 use Rattle.search.specs.Sought.{plan}
 use Rattle.search.specs.declared.layout.Layout.{Layout}
@@ -51,10 +50,3 @@ module _ {M : Type 0} {m : Ghosts M} (f : Front M m) where
 
   pub sound_of : Sound (task_of f)
   sound_of = sound f.hunt.now f.start f.start_in.0 f.start_in.1
-
-module _ {M : Type 0} {m : Ghosts M} {f g : Front M m} (s : Same f g) where
-  pub same_task : task_of g ≡ task_of f
-  same_task = ap₂ (λ k i. task k.now i) s.hunt s.start
-
-  pub same_then : {h : Front M m} → Same g h → Same f h
-  same_then t = record { hunt = t.hunt ∙ s.hunt; start = t.start ∙ s.start }

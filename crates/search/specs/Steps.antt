@@ -1,8 +1,6 @@
 -- What one pipe changes in a row, and one relaxed pipe in the front. Assumes nothing.
 use Rattle.std.specs.Prelude.{◌≡◌, ℕ, suc, ◌+◌, Bool, true, false, not, List, nat_eq, slice_index_or, slice_set}
 use Rattle.cycle_space.specs.Rows.{Row, row_of, sum}
-use Rattle.measures.specs.declared.measure.Measure.{Ghosts}
-use Rattle.search.specs.declared.front.Front.{Front}
 use Rattle.search.specs.declared.mark.Mark.{Mark}
 use Rattle.search.specs.declared.mark.Mark.TheVariants.{Unreached, Open, Settled}
 use Rattle.search.specs.Marks.{mark, row_at}
@@ -26,8 +24,3 @@ pub record Relaxed {M : Type 0} (none : M) (join : M → M → M) (within : M �
     (marks : List Mark) (dist : List M) (u v j : ℕ) (w : M) (marks' : List Mark) (dist' : List M) : Type 0 where
   pub stays : better within (mark marks v) (slice_index_or dist v none) (join (slice_index_or dist u none) w) ≡ false → (marks' ≡ marks) × (dist' ≡ dist)
   pub moves : better within (mark marks v) (slice_index_or dist v none) (join (slice_index_or dist u none) w) ≡ true → Entered marks dist u v j (join (slice_index_or dist u none) w) marks' dist'
-
--- the same search still: of the same hunt, from the same start, over the same scratch
-pub record Same {M : Type 0} {m : Ghosts M} (f f' : Front M m) : Type 0 where
-  pub hunt : f'.hunt ≡ f.hunt
-  pub start : f'.start ≡ f.start

@@ -24,7 +24,8 @@ impl<M: Measure> Front<'_, M> {
     ghost use Rattle.std.specs.Prelude.{◌≡◌, ◌<◌, true, slice_index_or};
     ghost use Rattle.search.specs.Marks.{mark, reached};
     ghost use Rattle.search.specs.Fronts.{Picked, Inside, Nearer};
-    ghost use Rattle.search.specs.Steps.{better, Same, Entered, Relaxed};
+    ghost use Rattle.search.specs.Tasks.{task_of};
+    ghost use Rattle.search.specs.Steps.{better, Entered, Relaxed};
 
     // The nearer of the state best, if there is one, and the state k.
     fn nearer(&self, best: Option<usize>, k: usize) -> usize
@@ -66,7 +67,7 @@ impl<M: Measure> Front<'_, M> {
     fn enter(&mut self, u: usize, v: usize, place: usize, reach: M)
         requires inside { (u < states self.old.hunt.now.net.now) × (v < states self.old.hunt.now.net.now) × (place < 256) }
         requires from { reached self.old.marks u ≡ true }
-        ensures same { Same self.old self.new }
+        ensures same { task_of self.new ≡ task_of self.old }
         ensures entered { Entered self.old.marks self.old.dist.now u v place reach self.new.marks self.new.dist.now }
     {
         let row = self.marks[u].row().unwrap();
@@ -78,7 +79,7 @@ impl<M: Measure> Front<'_, M> {
     pub(crate) fn relax(&mut self, u: usize, v: usize, place: usize, w: M)
         requires inside { (u < states self.old.hunt.now.net.now) × (v < states self.old.hunt.now.net.now) × (place < 256) }
         requires from { reached self.old.marks u ≡ true }
-        ensures same { Same self.old self.new }
+        ensures same { task_of self.new ≡ task_of self.old }
         ensures relaxed { Relaxed M.zero M.join M.within self.old.marks self.old.dist.now u v place w self.new.marks self.new.dist.now }
     {
         let reach = self.dist[u].join(w);

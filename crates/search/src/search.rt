@@ -3,7 +3,6 @@ ghost use Rattle.std.specs.Prelude.{◌≡◌, ◌<◌, length};
 ghost use Rattle.search.specs.Layouts.{states};
 ghost use Rattle.search.specs.Fronts.{Nearest};
 ghost use Rattle.search.specs.Tasks.{task_of};
-ghost use Rattle.search.specs.Steps.{Same};
 ghost use Rattle.search.specs.Searches.{Searching, Settling, Shortest, unsettled};
 
 use crate::front::Front;
@@ -13,7 +12,7 @@ use measures::Measure;
 impl<M: Measure> Front<'_, M> {
     // Reaches the start, and nothing else.
     fn begin(&mut self)
-        ensures same { Same self.old self.new }
+        ensures same { task_of self.new ≡ task_of self.old }
         ensures searching { Searching (task_of self.new) self.new.marks self.new.dist.now }
     {
         let s = 2 * (self.start - 1);
@@ -26,7 +25,7 @@ impl<M: Measure> Front<'_, M> {
     fn spread(&mut self, u: usize)
         requires inside { u < states self.old.hunt.now.net.now }
         requires settling { Settling (task_of self.old) u 0 self.old.marks self.old.dist.now }
-        ensures same { Same self.old self.new }
+        ensures same { task_of self.new ≡ task_of self.old }
         ensures left { unsettled self.new.marks ≡ unsettled self.old.marks }
         ensures settling { Settling (task_of self.new) u (length self.new.hunt.now.net.now.weights.now) self.new.marks self.new.dist.now }
     {
@@ -41,7 +40,7 @@ impl<M: Measure> Front<'_, M> {
     fn settle(&mut self, u: usize)
         requires searching { Searching (task_of self.old) self.old.marks self.old.dist.now }
         requires nearest { Nearest M.zero M.within self.old.dist.now self.old.marks (states self.old.hunt.now.net.now) u }
-        ensures same { Same self.old self.new }
+        ensures same { task_of self.new ≡ task_of self.old }
         ensures fewer { unsettled self.new.marks < unsettled self.old.marks }
         ensures searching { Searching (task_of self.new) self.new.marks self.new.dist.now }
     {
@@ -52,7 +51,7 @@ impl<M: Measure> Front<'_, M> {
 
     // Searches from the start until every reached state is settled.
     pub(crate) fn search(&mut self)
-        ensures same { Same self.old self.new }
+        ensures same { task_of self.new ≡ task_of self.old }
         ensures shortest { Shortest (task_of self.new) self.new.marks self.new.dist.now }
     {
         self.begin();

@@ -1,11 +1,11 @@
+use Rattle.std.proofs.Common.{◌≡◌}
 use Rattle.search.specs.Tasks.{task_of}
-use Rattle.search.specs.Steps.{Same}
 use Rattle.search.specs.Searches.{Searching, unsettled}
 use Rattle.search.proofs.front.Front.search.Given as goal
 
 abbrev pub invariant-loop-u : goal.invariant-loop-u
 invariant-loop-u g l = record {
-  same : Same l.initial.self l.self;
+  same : task_of l.self ≡ task_of l.initial.self;
   searching : Searching (task_of l.self) l.self.marks l.self.dist.now;
 }
 

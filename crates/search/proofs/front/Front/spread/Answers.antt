@@ -2,7 +2,7 @@ use Rattle.std.proofs.Common.{◌≡◌, ◌<◌, length, sym, ap, ◌∙◌, ar
 use Rattle.std.proofs.lemmas.List.{get_or_read}
 use Rattle.search.specs.Tasks.{task_of}
 use Rattle.search.proofs.Attaining.{stepping}
-use Rattle.search.proofs.Laying.{laws_of, sound_of, same_task, same_then}
+use Rattle.search.proofs.Laying.{laws_of, sound_of}
 use Rattle.search.proofs.Relaxing.{relaxed_on, passed_on}
 use Rattle.search.proofs.front.Front.spread.Goals as goal
 use Rattle.search.proofs.front.Front.spread.Goals.{in-Some, in_default}
@@ -17,7 +17,7 @@ loop-place-preserved g c =
       | in-Some w ↦
           let laws = laws_of f g.met.M.Measure.lawful in
           let sound = sound_of f in
-          let same = ap (λ k. k.now.net.now.weights.now) inv.same.hunt in
+          let same = ap (λ k. k.weights) inv.same in
           let below : i < length t.weights = rw same c.loop-place-test.true in
           let read = get_or_read t.weights i c.weight-item.result below (rw same c.weight-item.is) t.none in
           let inside = w.in-Some.ensures.inside in
@@ -26,7 +26,7 @@ loop-place-preserved g c =
           let weighed = sound.net.weighed in
           let r = relaxed_on inv.settling laws (stepping t laws sound) w.in-Some.v _ _
           (omega arith) (sym c.across.ensures.leads ∙ w.in-Some.is) inside (omega arith) (omega arith) _ read w.relax.ensures.relaxed in
-          rw (w.self-is, same_task w.relax.ensures.same) (record { same = same_then inv.same w.relax.ensures.same; left = r.1 ∙ inv.left; settling = r.0 })
+          rw (w.self-is, w.relax.ensures.same) (record { same = inv.same; left = r.1 ∙ inv.left; settling = r.0 })
       | in_default w ↦
           rw w.self-is (record { same = inv.same; left = inv.left; settling = passed_on inv.settling (sym c.across.ensures.leads ∙ w.in_default.is) })
     ]
@@ -34,7 +34,7 @@ loop-place-preserved g c =
 pub returns-clause-settling : goal.returns-clause-settling
 returns-clause-settling g c =
     let n = length c.loop-place.self.hunt.now.net.now.weights.now in
-    let same = ap (λ k. length k.now.net.now.weights.now) c.loop-place.invariant.same.hunt in
+    let same = ap (λ k. length k.weights) c.loop-place.invariant.same in
     let left = c.loop-place-test.false in
     let far = c.loop-place.auto.place-end in
     let all : c.loop-place.place ≡ n = omega arith in

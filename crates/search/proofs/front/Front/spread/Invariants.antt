@@ -1,13 +1,12 @@
 use Rattle.std.proofs.Common.{◌≡◌}
 use Rattle.search.specs.Tasks.{task_of}
-use Rattle.search.specs.Steps.{Same}
 use Rattle.search.specs.Searches.{Settling, unsettled}
 use Rattle.search.proofs.front.Front.spread.Given as goal
 
 -- the pipes so far are relaxed, and no state is settled besides
 abbrev pub invariant-loop-place : goal.invariant-loop-place
 invariant-loop-place g l = record {
-  same : Same l.initial.self l.self;
+  same : task_of l.self ≡ task_of l.initial.self;
   left : unsettled l.self.marks ≡ unsettled l.initial.self.marks;
   settling : Settling (task_of l.self) l.u l.place l.self.marks l.self.dist.now;
 }
