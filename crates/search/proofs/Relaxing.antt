@@ -155,8 +155,8 @@ module _ {M : Type 0} {t : Task M} {u i : ℕ} {ms : List Mark} {d : List M} (s 
   }
 
   -- where the pipe does not lie at u
-  pub passed_on : arc t.shape t.support u i ≡ None → Settling t u (i + 1) ms d
-  passed_on no_arc = one_more (λ w a. cc)
+  pub passed_on : {o : Option ℕ} → o ≡ arc t.shape t.support u i → o ≡ None → Settling t u (i + 1) ms d
+  passed_on leads is = one_more (λ w a. cc)
 
   -- where the other state does not improve
   stayed_on : Lawful t → (v : ℕ) → arc t.shape t.support u i ≡ Some v
@@ -169,11 +169,12 @@ module _ {M : Type 0} {t : Task M} {u i : ℕ} {ms : List Mark} {d : List M} (s 
       (λ h. h)
       (not_better _ _ _ _ no_better)))
 
-  pub relaxed_on : Lawful t → Stepping t → (v : ℕ) (ms' : List Mark) (d' : List M)
-      → i < t.shape.pipes → arc t.shape t.support u i ≡ Some v → v < 2 * t.shape.nodes → v < length d → v < 128
-      → (w : M) → w ≡ weight t i → Relaxed t.none t.join t.within ms d u v i w ms' d'
+  pub relaxed_on : Lawful t → Stepping t → {o : Option ℕ} {v : ℕ} {ms' : List Mark} {d' : List M}
+      → i < t.shape.pipes → o ≡ arc t.shape t.support u i → o ≡ Some v → v < 2 * t.shape.nodes → v < length d → v < 128
+      → {w : M} → w ≡ weight t i → Relaxed t.none t.join t.within ms d u v i w ms' d'
       → Settling t u (i + 1) ms' d' × (unsettled ms' ≡ unsettled ms)
-  relaxed_on laws step v ms' d' here leads small in_d fits w is q =
+  relaxed_on laws step {v = v} {ms' = ms'} {d' = d'} here arc_is to small in_d fits is q =
+      let leads = sym arc_is ∙ to in
       let in_ms : v < length ms = let e = s.kept.marks_sized in omega arith in
       let r = rw is at q in
       ⊎_elim

@@ -73,12 +73,12 @@ module _ {M : Type 0} {t : Task M} (laws : Lawful t) where
       done = λ j h. absurd (omega arith);
     }
 
-  pub turn_ends : {ms : List Mark} {d : List M} {u n : ℕ} → t.shape.pipes ≡ n → Settling t u n ms d → Searching t ms d
-  turn_ends {ms} {d} {u} {n} all s = record {
+  pub turn_ends : {ms : List Mark} {d : List M} {u : ℕ} → Settling t u t.shape.pipes ms d → Searching t ms d
+  turn_ends {ms} {d} {u} s = record {
     kept = s.kept;
     order = λ a b h o. laws.base.trans _ _ _ (s.before a h) (s.after b o);
     eased = λ k h j below. ⊎_elim
-        (λ e. subst (λ (n : ℕ). Eased t ms d n j) (sym e) (s.done j (omega arith)))
+        (λ e. subst (λ (n : ℕ). Eased t ms d n j) (sym e) (s.done j below))
         (λ ne. s.eased k h ne j below)
         (cases_eq k u);
   }

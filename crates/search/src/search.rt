@@ -1,5 +1,5 @@
 // The search from one node: label-setting, over states.
-ghost use Rattle.std.specs.Prelude.{◌≡◌, ◌<◌, length};
+ghost use Rattle.std.specs.Prelude.{◌≡◌, ◌<◌};
 ghost use Rattle.search.specs.Layouts.{states};
 ghost use Rattle.search.specs.Fronts.{Nearest};
 ghost use Rattle.search.specs.Tasks.{task_of};
@@ -27,7 +27,7 @@ impl<M: Measure> Front<'_, M> {
         requires settling { Settling (task_of self.old) u 0 self.old.marks self.old.dist.now }
         ensures same { task_of self.new ≡ task_of self.old }
         ensures left { unsettled self.new.marks ≡ unsettled self.old.marks }
-        ensures settling { Settling (task_of self.new) u (length self.new.hunt.now.net.now.weights.now) self.new.marks self.new.dist.now }
+        ensures settling { Settling (task_of self.new) u (task_of self.new).shape.pipes self.new.marks self.new.dist.now }
     {
         for (place, weight) in self.hunt.net.weights.iter().enumerate() {
             if let Some(v) = self.hunt.across(u, place) {

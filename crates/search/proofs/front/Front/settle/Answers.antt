@@ -1,5 +1,5 @@
 use Rattle.std.proofs.Common.{sym, ◌∙◌}
-use Rattle.search.proofs.Laying.{bounded, laws_of}
+use Rattle.search.proofs.Laying.{laws_of}
 use Rattle.search.proofs.Turns.{one_less, turn_begins, turn_ends}
 use Rattle.search.proofs.front.Front.settle.Goals as goal
 
@@ -15,6 +15,4 @@ returns-clause-fewer g c =
     (one_less (laws_of f g.met.M.Measure.lawful) c.requires.searching f.hunt.now.net.now.few_nodes c.requires.nearest (sym c.row.ensures ∙ c.unwrap-row.ensures))
 
 pub returns-clause-searching : goal.returns-clause-searching
-returns-clause-searching g c =
-    let f = c.spread.new.self in
-    turn_ends (laws_of f g.met.M.Measure.lawful) (sym (bounded f.hunt.now f.start).weighed) c.spread.ensures.settling
+returns-clause-searching g c = turn_ends (laws_of c.spread.new.self g.met.M.Measure.lawful) c.spread.ensures.settling
