@@ -16,9 +16,6 @@ use Rattle.search.proofs.Marking.{settled_reached, open_counts}
 abbrev pub Stepping : {M : Type 0} → Task M → Type 0
 Stepping {M} t = (u v j : ℕ) (x : Row) (e : M) → j < t.shape.pipes → arc t.shape t.support u j ≡ Some v → Attained t u x e → Attained t v (turn x j) (t.join e (weight t j))
 
-some_same : (o : Option ℕ) (v w : ℕ) → o ≡ Some v → o ≡ Some w → w ≡ v
-some_same o v w p q = cc
-
 module _ {M : Type 0} (within : M → M → Bool) where
   not_better : (m : Mark) (d reach : M) → better within m d reach ≡ false → (is_settled m ≡ true) ⊎ ((is_reached m ≡ true) × (within d reach ≡ true))
   not_better Unreached d reach e = cc
@@ -137,7 +134,7 @@ module _ {M : Type 0} (t : Task M) (laws : Lawful t) (step : Stepping t) (u v i 
     eased = λ k s ne j h. eased_still k j (was_settled k s) (before.eased k (was_settled k s) ne j h);
     done = below_more _ _ (λ j h. eased_still u j before.mine (before.done j h))
         (λ w a.
-        let e : w ≡ v = some_same _ _ _ leads a in
+        let e : w ≡ v = cc (leads, a) in
         let P : ℕ → Type 0 = λ n. (reached ms' n ≡ true) × (t.within (at t d' n) (t.join (at t d' u) (weight t i)) ≡ true) in
         subst P (sym e) (reached_new, rw (m.d_new, still u before.mine) (self laws.base _)));
   }
@@ -162,7 +159,7 @@ module _ {M : Type 0} {t : Task M} {u i : ℕ} {ms : List Mark} {d : List M} (s 
   stayed_on : Lawful t → (v : ℕ) → arc t.shape t.support u i ≡ Some v
       → better t.within (mark ms v) (at t d v) (t.join (at t d u) (weight t i)) ≡ false → Settling t u (i + 1) ms d
   stayed_on laws v leads no_better = one_more (λ w a.
-      let e : w ≡ v = some_same _ _ _ leads a in
+      let e : w ≡ v = cc (leads, a) in
       let P : ℕ → Type 0 = λ n. (reached ms n ≡ true) × (t.within (at t d n) (t.join (at t d u) (weight t i)) ≡ true) in
       subst P (sym e) (⊎_elim
       (λ sv. (settled_reached _ sv, laws.base.trans _ _ _ (s.before v sv) (grows laws _ _)))

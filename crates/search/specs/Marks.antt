@@ -22,6 +22,7 @@ walked Unreached = None
 walked (Open x) = Some x
 walked (Settled x) = Some x
 
+-- the same row, and no words where the state is not reached
 abbrev pub way : Mark → Row
 way Unreached = []
 way (Open x) = x
@@ -41,5 +42,6 @@ module _ (ms : List Mark) (k : ℕ) where
   abbrev pub settled : Bool
   settled = is_settled mark
 
+  -- the row walked to the state k
   abbrev pub row_at : Row
   row_at = way mark

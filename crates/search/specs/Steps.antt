@@ -9,7 +9,7 @@ use Rattle.search.specs.Marks.{mark, row_at}
 abbrev pub turn : Row → ℕ → Row
 turn row j = sum row (row_of (λ i. nat_eq (suc i) (j + 1)))
 
--- whether a state with such a mark, at the distance d, is open to the distance reach
+-- whether the distance reach improves a state with such a mark, at the distance d
 abbrev pub better : {M : Type 0} → (M → M → Bool) → Mark → M → M → Bool
 better within Unreached d reach = true
 better within (Open _) d reach = not (within d reach)

@@ -51,7 +51,7 @@ impl<M: Measure> Front<'_, M> {
         best
     }
 
-    // Whether the state v is open to the distance reach: it is not settled, and not reached at that distance or a smaller one.
+    // Whether the distance reach improves the state v: v is not reached yet, or it is open and not at that distance or a smaller one.
     fn improves(&self, v: usize, reach: M) -> bool
         requires { v < states self.now.hunt.now.net.now }
         ensures { result ≡ better M.within (mark self.now.marks v) (slice_index_or self.now.dist.now v M.zero) reach }

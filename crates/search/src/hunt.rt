@@ -11,6 +11,7 @@ use measures::Measure;
 pub(crate) struct Hunt<'a, M: Measure> {
     pub(crate) net: &'a Layout<'a, M>,
     pub(crate) support: [u64; 4],
+    // what is joined to both sides keeps their order
     ghost order: { KeepsOrder M.join M.within },
 }
 
