@@ -38,8 +38,8 @@ impl<M: Measure> Hunt<'_, M> {
     fn starts(&self, node: usize) -> bool
         ensures { result ≡ false → Start (task self.now node) node → ⊥ }
     {
-        self.net.ends.iter().enumerate().any(|(place, ends)| ends.first == node
-            && has(self.support, place + 1))
+        let mut pipes = self.net.ends.iter().enumerate();
+        pipes.any(|(place, ends)| ends.first == node && has(self.support, place + 1))
     }
 
     // The lightest odd closed walk through the node.
