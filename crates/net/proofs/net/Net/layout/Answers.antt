@@ -1,4 +1,4 @@
-use Rattle.std.proofs.Common.{length, take, sym, refl, ◌∙◌, subst, arith}
+use Rattle.std.proofs.Common.{sym, refl, ◌∙◌, subst, arith}
 use Rattle.std.proofs.lemmas.List.{length-take-le}
 use Rattle.cycle_space.specs.Shapes.{EndsAreNodes}
 use Rattle.net.proofs.Kept.{kept, ends_for_all, ends_are_nodes, view_shape, weights_seen}
