@@ -32,7 +32,7 @@ module _ (s : Row) (b u j : ℕ) (from_one : 1 ≤ b) where
       go false = ap (λ n. eqb n 1) (let z : (2 * (b - 1) + u % 2) % 2 ≡ u % 2 = omega arith in z)
 
 module _ {M : Type 0} (t : Task M) (sound : Sound t) (u j : ℕ) (here : j < t.shape.pipes) where
-  arc_ways : (v : ℕ) → arc t u j ≡ Some v
+  arc_ways : (v : ℕ) → arc t.shape t.support u j ≡ Some v
       → ((t.shape.first j ≡ node u) × (v ≡ arrival t.support (t.shape.second j) u j))
       ⊎ ((t.shape.second j ≡ node u) × (v ≡ arrival t.support (t.shape.first j) u j))
   arc_ways v leads = ⊎_elim
@@ -48,7 +48,7 @@ module _ {M : Type 0} (t : Task M) (sound : Sound t) (u j : ℕ) (here : j < t.s
       (cases_Bool (eqb (t.shape.first j) (node u)))
 
   -- what a crossing says of the states
-  pub arc_crosses : (v : ℕ) → arc t u j ≡ Some v → Crosses t.shape j (node u) (node v) × (is_odd v ≡ add2 (is_odd u) (bit t.support j))
+  pub arc_crosses : (v : ℕ) → arc t.shape t.support u j ≡ Some v → Crosses t.shape j (node u) (node v) × (is_odd v ≡ add2 (is_odd u) (bit t.support j))
   arc_crosses v leads = ⊎_elim
       (λ w.
       let one = (sound.net.ends_in j here).1.0 in (
@@ -63,7 +63,7 @@ module _ {M : Type 0} (t : Task M) (sound : Sound t) (u j : ℕ) (here : j < t.s
       (arc_ways v leads)
 
   -- a pipe at the state's node can be crossed
-  pub arc_across : (b : ℕ) → Crosses t.shape j (node u) b → (v : ℕ) × (arc t u j ≡ Some v) × (node v ≡ b) × (is_odd v ≡ add2 (is_odd u) (bit t.support j))
+  pub arc_across : (b : ℕ) → Crosses t.shape j (node u) b → (v : ℕ) × (arc t.shape t.support u j ≡ Some v) × (node v ≡ b) × (is_odd v ≡ add2 (is_odd u) (bit t.support j))
   arc_across b c = ⊎_elim
       (λ at_first.
       let one = (sound.net.ends_in j here).1.0 in

@@ -1,15 +1,16 @@
 -- The lightest candidate of some starts, one start after the other, and of all. Assumes nothing.
-use Rattle.std.proofs.Common.{◌≡◌, ℕ, ◌+◌, ◌-◌, ◌*◌, ◌%◌, ◌<◌, true, false, eqb, List, get_or, Some, None, Option, sym, ap, ◌∙◌, subst, ⊎_elim, arith, below_more}
+use Rattle.std.proofs.Common.{◌≡◌, ℕ, ◌+◌, ◌-◌, ◌*◌, ◌%◌, ◌<◌, eqb, List, Some, None, Option, ap, ◌∙◌, ⊎_elim, arith, below_more}
 use borrow.Author.Tests.{eqb-false}
 use Rattle.std.proofs.lemmas.Bool.{cases_Bool, cond-true, cond-false}
 use Rattle.cycle_space.specs.Rows.{Row, add2}
 use Rattle.cycle_space.specs.Bases.{touching}
 use Rattle.cycle_space.proofs.Booleans.{add2_same}
 use Rattle.search.specs.Tasks.{Task, Bounded, Sound, Attained, node, odd_start}
-use Rattle.search.specs.Steps.{row_at}
+use Rattle.search.specs.declared.mark.Mark.{Mark}
+use Rattle.search.specs.Marks.{mark, walked}
+use Rattle.search.proofs.Marking.{walked_reached, walked_way}
 use Rattle.search.specs.Searches.{Shortest, at}
 use Rattle.search.specs.Finds.{at_start, Start, choose, Good, ClosedThrough, Least, Lightest}
-use Rattle.search.specs.declared.front.Front.{Front}
 use Rattle.search.specs.declared.lightest.Candidate.{Candidate}
 use Rattle.search.proofs.Measuring.{Lawful, heavier}
 use Rattle.search.proofs.Rings.{round_of}
@@ -33,12 +34,12 @@ module _ {M : Type 0} (t : Task M) where
       }
 
   -- what a search says of the odd start, where it is reached
-  pub found_at : (f : Front) (d : List M) (w : M) → Sound t → w ≡ at t d (odd_start t) → Shortest t f d
-      → get_or f.reached (odd_start t) false ≡ true → ClosedThrough t (Some (record { weight = w; row = row_at f.ways (odd_start t) }))
-  found_at f d w sound is short r = (
-    good_at (row_at f.ways (odd_start t)) w sound (subst (Attained t (odd_start t) (row_at f.ways (odd_start t))) (sym is) (short.attained (odd_start t) r)),
-    λ c walk. subst (λ y. t.within y c ≡ true) (sym is) (short.lower (odd_start t) c walk).1,
-  )
+  pub found_at : Sound t → (ms : List Mark) (d : List M) (w : M) (x : Row) → w ≡ at t d (odd_start t) → walked (mark ms (odd_start t)) ≡ Some x
+      → Shortest t ms d → ClosedThrough t (Some (record { weight = w; row = x }))
+  found_at sound ms d w x is was short =
+      let a = short.attained (odd_start t) (walked_reached _ x was) in
+      let a' : Attained t (odd_start t) x w = rw (is, ← walked_way _ x was) a in
+      (good_at x w sound a', λ c walk. rw is (short.lower (odd_start t) c walk).1)
 
   -- the start makes no difference
   good_from : (s : ℕ) (f : Candidate M) → Good (at_start t s) f → Good t f
@@ -65,11 +66,15 @@ module _ {M : Type 0} (t : Task M) where
     start_below : Bounded t → (s : ℕ) → Start t s → s < t.shape.nodes + 1
     start_below net s st = let h = (net.ends_in st.0 st.1).0.1 in let e = st.3 in omega arith
 
-    pub lightest_of : Bounded t → (r : Option (Candidate M)) → Least t (t.shape.nodes + 1) r → Lightest t r
-    lightest_of net (Some f) p = (
+    pub lightest_of : Bounded t → (k : ℕ) → t.shape.nodes < k → (r : Option (Candidate M)) → Least t k r → Lightest t r
+    lightest_of net k all (Some f) p = (
       p.0,
       λ x c o.
           let r = round_of t laws net x c o in
-          laws.base.trans _ _ _ (p.1 r.from (start_below net r.from r.start) r.start r.cost r.walk) r.light,
+          let below = start_below net r.from r.start in
+          laws.base.trans _ _ _ (p.1 r.from (omega arith) r.start r.cost r.walk) r.light,
     )
-    lightest_of net None p = λ x c o. let r = round_of t laws net x c o in p r.from (start_below net r.from r.start) r.start r.cost r.walk
+    lightest_of net k all None p = λ x c o.
+        let r = round_of t laws net x c o in
+        let below = start_below net r.from r.start in
+        p r.from (omega arith) r.start r.cost r.walk

@@ -1,5 +1,6 @@
 -- The lemmas, each file above those that use it. Assumes nothing.
 pub mod Measuring
+pub mod Marking
 pub mod Picks
 pub mod Relaxing
 pub mod Turns
@@ -10,4 +11,3 @@ pub mod Starting
 pub mod Rings
 pub mod Finding
 pub mod Laying
-pub mod Hunting

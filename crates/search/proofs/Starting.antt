@@ -1,5 +1,5 @@
 -- The front before the first turn. Assumes nothing.
-use Rattle.std.proofs.Common.{◌≡◌, ℕ, zero, suc, ◌-◌, ◌*◌, ◌%◌, ◌<◌, ◌≤◌, true, false, cond, eqb, List, length, get_or, set, replicate, sym, refl, ap, ◌∙◌, subst, ⊎_elim, arith, length-set, get_or-set_other, get_or-set_same}
+use Rattle.std.proofs.Common.{◌≡◌, ℕ, zero, suc, ◌-◌, ◌*◌, ◌%◌, ◌<◌, ◌≤◌, true, false, cond, eqb, ◌≢◌, List, length, get_or, set, replicate, sym, refl, ap, ◌∙◌, subst, ⊎_elim, arith, length-set, get_or-set_other, get_or-set_same}
 use lib.ListN.{length-replicate, get_or-replicate}
 use borrow.Author.Tests.{both_ways}
 use Rattle.std.proofs.lemmas.Bool.{cases_eq, cases_lt}
@@ -10,16 +10,16 @@ use Rattle.cycle_space.proofs.Folds.{fold_none}
 use Rattle.cycle_space.proofs.Bits.{empty_bit, empty_row}
 use Rattle.cycle_space.proofs.Parities.{parity_laws}
 use Rattle.cycle_space.proofs.Trails.{touching_parity, bd_same, bd_none}
-use Rattle.search.specs.Steps.{row_at, blank}
+use Rattle.search.specs.declared.mark.Mark.{Mark}
+use Rattle.search.specs.declared.mark.Mark.TheVariants.{Unreached, Open}
+use Rattle.search.specs.Marks.{is_reached, is_settled, mark, reached, settled, row_at}
 use Rattle.search.specs.Tasks.{Task, Sound, Attained, node, row_weight, even_start}
 use Rattle.search.specs.Searches.{at, Searching}
-use Rattle.search.specs.declared.front.Front.{Front}
-use Rattle.search.specs.declared.way.Way.{Way}
 use Rattle.search.proofs.Measuring.{Lawful, monoid, self}
 use Rattle.search.proofs.Sets.{row_heft}
 
-all_false : (n k : ℕ) → get_or (replicate n false) k false ≡ false
-all_false n k = ⊎_elim (λ h. get_or-replicate n k false false h) (λ h. get_or_past (replicate n false) k false (let e = length-replicate n false in omega arith)) (cases_lt k n)
+all_unreached : (n k : ℕ) → mark (replicate n Unreached) k ≡ Unreached
+all_unreached n k = ⊎_elim (λ h. get_or-replicate n k Unreached Unreached h) (λ h. get_or_past (replicate n Unreached) k Unreached (let e = length-replicate n Unreached in omega arith)) (cases_lt k n)
 
 module _ {M : Type 0} (t : Task M) (laws : Lawful t) (sound : Sound t) where
   empty_weight : row_weight t empty ≡ t.none
@@ -47,43 +47,41 @@ module _ {M : Type 0} (t : Task M) (laws : Lawful t) (sound : Sound t) where
       others (suc k) h = empty_bit k
 
   module _ (d : List M) (room : 2 * t.shape.nodes ≤ length d) where
-    abbrev first : Front
-    first = record {
-      reached = set (replicate 128 false) (even_start t) true;
-      settled = replicate 128 false;
-      ways = replicate 128 (record { words = empty });
-    }
+    abbrev first : List Mark
+    first = set (replicate 128 Unreached) (even_start t) (Open empty)
 
     abbrev zeroed : List M
     zeroed = set d (even_start t) t.none
 
-    only : (k : ℕ) → get_or first.reached k false ≡ true → k ≡ even_start t
-    only k r = ⊎_elim (λ e. e)
-        (λ ne. absurd (both_ways _ (get_or-set_other (replicate 128 false) (even_start t) k true false ne ∙ all_false 128 k) r))
-        (cases_eq k (even_start t))
-
-    never : (k : ℕ) → get_or first.settled k false ≡ true → ⊥
-    never k s = both_ways _ (all_false 128 k) s
+    mark_there : mark first (even_start t) ≡ Open empty
+    mark_there = get_or-set_same (replicate 128 Unreached) (even_start t) (Open empty) Unreached
+        (let h = sound.start_in.0 in let h' = sound.start_in.1 in let k = sound.net.few_nodes in omega arith)
 
     zero_there : at t zeroed (even_start t) ≡ t.none
     zero_there = get_or-set_same d (even_start t) t.none t.none (let h = sound.start_in.0 in let h' = sound.start_in.1 in omega arith)
 
+    elsewhere : (k : ℕ) → k ≢ even_start t → mark first k ≡ Unreached
+    elsewhere k ne = get_or-set_other (replicate 128 Unreached) (even_start t) k (Open empty) Unreached ne ∙ all_unreached 128 k
+
+    only : (k : ℕ) → reached first k ≡ true → k ≡ even_start t
+    only k r = ⊎_elim (λ e. e) (λ ne. absurd (both_ways _ (ap is_reached (elsewhere k ne)) r)) (cases_eq k (even_start t))
+
+    never : (k : ℕ) → settled first k ≡ true → ⊥
+    never k s = ⊎_elim
+        (λ e. both_ways _ (ap is_settled mark_there) (subst (λ (n : ℕ). settled first n ≡ true) e s))
+        (λ ne. both_ways _ (ap is_settled (elsewhere k ne)) s)
+        (cases_eq k (even_start t))
+
     pub started : Searching t first zeroed
     started = record {
       kept = record {
-        sized = let e = length-set d (even_start t) t.none in omega arith;
-        reached_sized = length-set (replicate 128 false) (even_start t) true;
-        settled_sized = refl;
-        ways_sized = refl;
-        start_reached = get_or-set_same (replicate 128 false) (even_start t) true false (let h = sound.start_in.0 in let h' = sound.start_in.1 in let k = sound.net.few_nodes in omega arith);
+        marks_sized = length-set (replicate 128 Unreached) (even_start t) (Open empty);
+        start_reached = ap is_reached mark_there;
         start_zero = zero_there;
         inside = λ k r. let e = only k r in let h = sound.start_in.0 in let h' = sound.start_in.1 in omega arith;
-        known = λ k s. absurd (never k s);
         attained = λ k r.
-            let P : ℕ → Type 0 = λ n. Attained t n (row_at first.ways n) (at t zeroed n) in
-            let x : row_at first.ways (even_start t) ≡ empty =
-            ap (λ (w : Way). w.words) (get_or-replicate 128 (even_start t) (record { words = empty }) blank (let h = sound.start_in.0 in let h' = sound.start_in.1 in let k = sound.net.few_nodes in omega arith)) in
-            subst P (sym (only k r)) (rw (x, zero_there) start_attained);
+            let P : ℕ → Type 0 = λ n. Attained t n (row_at first n) (at t zeroed n) in
+            subst P (sym (only k r)) (rw (mark_there, zero_there) start_attained);
       };
       order = λ a b h o. absurd (never a h);
       eased = λ k h j below. absurd (never k h);

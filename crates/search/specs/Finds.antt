@@ -3,14 +3,7 @@ use Rattle.std.specs.Prelude.{◌≡◌, ℕ, ◌<◌, Bool, true, cond, Some, N
 use Rattle.cycle_space.specs.Rows.{Row, bit, odd}
 use Rattle.cycle_space.specs.Bases.{Closed}
 use Rattle.search.specs.Tasks.{Task, Walk, odd_start, row_weight}
-use Rattle.search.specs.Sought.{plan}
-use Rattle.search.specs.declared.layout.Layout.{Layout}
 use Rattle.search.specs.declared.lightest.Candidate.{Candidate}
-
--- the search of a net from the node s
-abbrev pub from_node : {M : Type 0} → M → (M → M → M) → (M → M → Bool) → Layout M → Row → ℕ → Task M
-from_node none join within l support s =
-    record { none = none; join = join; within = within; shape = plan l; weights = l.weights.now; support = support; start = s }
 
 -- the same task from another start
 abbrev pub at_start : {M : Type 0} → Task M → ℕ → Task M

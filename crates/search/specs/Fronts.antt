@@ -1,20 +1,17 @@
 -- The choice of the nearest open state. Assumes nothing.
-use Rattle.std.specs.Prelude.{◌≡◌, ℕ, ◌<◌, Bool, true, false, ◌⊎◌, List, get_or, Some, None, Option, slice_index_or}
-
--- the state k is reached, and not settled
-pub record Open (reached settled : List Bool) (k : ℕ) : Type 0 where
-  pub in_reach : get_or reached k false ≡ true
-  pub unsettled : get_or settled k false ≡ false
+use Rattle.std.specs.Prelude.{◌≡◌, ℕ, ◌<◌, Bool, true, ◌⊎◌, List, Some, None, Option, slice_index_or}
+use Rattle.search.specs.declared.mark.Mark.{Mark}
+use Rattle.search.specs.Marks.{opened}
 
 module _ {M : Type 0} (none : M) (within : M → M → Bool) where
-  pub record Nearest (dist : List M) (reached settled : List Bool) (states u : ℕ) : Type 0 where
+  pub record Nearest (dist : List M) (marks : List Mark) (states u : ℕ) : Type 0 where
     pub inside : u < states
-    pub opens : Open reached settled u
-    pub least : (k : ℕ) → k < states → Open reached settled k → within (slice_index_or dist u none) (slice_index_or dist k none) ≡ true
+    pub opens : opened marks u ≡ true
+    pub least : (k : ℕ) → k < states → opened marks k ≡ true → within (slice_index_or dist u none) (slice_index_or dist k none) ≡ true
 
-  abbrev pub Picked : List M → List Bool → List Bool → ℕ → Option ℕ → Type 0
-  Picked dist reached settled states (Some u) = Nearest dist reached settled states u
-  Picked dist reached settled states None = (k : ℕ) → k < states → Open reached settled k → ⊥
+  abbrev pub Picked : List M → List Mark → ℕ → Option ℕ → Type 0
+  Picked dist marks states (Some u) = Nearest dist marks states u
+  Picked dist marks states None = (k : ℕ) → k < states → opened marks k ≡ true → ⊥
 
   -- u is best or k, whichever is nearer
   abbrev pub Nearer : List M → Option ℕ → ℕ → ℕ → Type 0

@@ -1,11 +1,15 @@
 -- A search task: the measure's members, the shape and weights of the net, the support, and the start. States, where pipes lead to from
 -- them, walks over them, and the rows that attain them. Assumes nothing.
-use Rattle.std.specs.Prelude.{◌≡◌, ℕ, ◌+◌, ◌-◌, ◌*◌, ◌/◌, ◌%◌, ◌<◌, ◌≤◌, Bool, true, cond, List, map, length, Some, None, Option, ◌==◌, slice_index_or}
+use Rattle.std.specs.Prelude.{◌≡◌, ℕ, ◌+◌, ◌-◌, ◌*◌, ◌/◌, ◌%◌, ◌<◌, ◌≤◌, Bool, true, cond, List, length, Some, None, Option, ◌==◌, slice_index_or}
 use Rattle.cycle_space.specs.Rows.{Row, bit, add2, odd}
 use Rattle.cycle_space.specs.Shapes.{Shape, Node, EndsAreNodes}
-use Rattle.cycle_space.specs.Moments.{drawn, weight_from}
+use Rattle.cycle_space.specs.Moments.{weight_from}
 use Rattle.cycle_space.specs.Bases.{OfPipes, touching}
+use Rattle.measures.specs.declared.measure.Measure.{Ghosts}
+use Rattle.search.specs.declared.layout.Layout.{Layout}
 use Rattle.search.specs.declared.hunt.Hunt.{Hunt}
+use Rattle.search.specs.declared.front.Front.{Front}
+use Rattle.search.specs.Sought.{plan}
 
 pub record Task (M : Type 0) : Type 0 where
   pub none : M
@@ -28,17 +32,18 @@ pub record Sound {M : Type 0} (t : Task M) : Type 0 where
   pub net : Bounded t
   pub start_in : Node t.shape t.start
 
--- the task of a hunt
-abbrev pub task : {M : Type 0} → M → (M → M → M) → (M → M → Bool) → Hunt M → Task M
-task none join within h = record {
-  none = none;
-  join = join;
-  within = within;
-  shape = drawn h.nodes (map (λ e. e.first) h.ends.now) (map (λ e. e.second) h.ends.now);
-  weights = h.weights.now;
-  support = h.support;
-  start = h.start;
-}
+-- the search of a net from the node s
+abbrev pub from_node : {M : Type 0} → M → (M → M → M) → (M → M → Bool) → Layout M → Row → ℕ → Task M
+from_node none join within l support s =
+    record { none = none; join = join; within = within; shape = plan l; weights = l.weights.now; support = support; start = s }
+
+-- the task of a hunt from the node s
+abbrev pub task : {M : Type 0} {m : Ghosts M} → Hunt M m → ℕ → Task M
+task {m = m} h s = from_node m.zero m.join m.within h.net.now h.support s
+
+-- the task of a front
+abbrev pub task_of : {M : Type 0} {m : Ghosts M} → Front M m → Task M
+task_of f = task f.hunt.now f.start
 
 -- the state of the node v, from 1, with the parity p, 0 or 1
 abbrev pub state : ℕ → ℕ → ℕ
@@ -57,10 +62,10 @@ abbrev pub arrival : Row → ℕ → ℕ → ℕ → ℕ
 arrival support v u j = cond (bit support j) (state v (1 - u % 2)) (state v (u % 2))
 
 -- the state on the other side of the pipe at the place j from the state u, where the pipe lies at u's node
-abbrev pub arc : {M : Type 0} → Task M → ℕ → ℕ → Option ℕ
-arc t u j =
-    cond (t.shape.first j == node u) (Some (arrival t.support (t.shape.second j) u j))
-    (cond (t.shape.second j == node u) (Some (arrival t.support (t.shape.first j) u j)) None)
+abbrev pub arc : Shape → Row → ℕ → ℕ → Option ℕ
+arc N support u j =
+    cond (N.first j == node u) (Some (arrival support (N.second j) u j))
+    (cond (N.second j == node u) (Some (arrival support (N.first j) u j)) None)
 
 -- the weight of the pipe at the place j
 abbrev pub weight : {M : Type 0} → Task M → ℕ → M
@@ -76,7 +81,7 @@ odd_start t = 2 * (t.start - 1) + 1
 -- a walk from the even start to a state, with the joined weight of its crossings
 pub data Walk {M : Type 0} (t : Task M) : ℕ → M → Type 0 where
   stay : Walk t (even_start t) t.none
-  cross : {u : ℕ} {c : M} (j v : ℕ) → Walk t u c → j < t.shape.pipes → arc t u j ≡ Some v → Walk t v (t.join c (weight t j))
+  cross : {u : ℕ} {c : M} (j v : ℕ) → Walk t u c → j < t.shape.pipes → arc t.shape t.support u j ≡ Some v → Walk t v (t.join c (weight t j))
 
 -- the weight of a row
 abbrev pub row_weight : {M : Type 0} → Task M → Row → M

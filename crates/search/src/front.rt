@@ -1,86 +1,90 @@
-// The front of a search: which states are reached and which are settled, and the row walked to each. How far each is stands in the caller's
-// scratch, `dist`.
-ghost use Rattle.std.specs.Prelude.{◌≡◌, ◌<◌, ◌≤◌, length};
-ghost use Rattle.search.specs.Fronts.{Picked, Inside, Nearer};
-ghost use Rattle.search.specs.Steps.{better, Entered, Relaxed};
+// The front of a search.
+ghost use Rattle.std.specs.Prelude.{◌≤◌, length};
+ghost use Rattle.search.specs.Layouts.{states};
 
-use crate::way::Way;
+use crate::hunt::Hunt;
+use crate::mark::Mark;
 use cycle_space::{single, sum};
 use measures::Measure;
 
+// A search from one node on its way: the marks of the states, and in the caller's scratch, `dist`, how far each reached state is.
 #[derive(Drop)]
-pub(crate) struct Front {
-    pub(crate) reached: [bool; 128],
-    pub(crate) settled: [bool; 128],
-    pub(crate) ways: [Way; 128],
+pub(crate) struct Front<'a, M: Measure> {
+    pub(crate) hunt: &'a Hunt<'a, M>,
+    pub(crate) start: usize,
+    pub(crate) dist: &'a mut [M],
+    pub(crate) marks: [Mark; 128],
+    // the start is a node
+    ghost start_in: { (1 ≤ start) × (start ≤ hunt.now.net.now.nodes) },
+    // dist has a place for each state
+    ghost room: { states hunt.now.net.now ≤ length dist.now },
 }
 
-// The nearer of the state best, if there is one, and the state k.
-fn nearer<M: Measure>(dist: &[M], best: Option<usize>, k: usize) -> usize
-    requires { (k < length dist.now) × (Inside (length dist.now) best) }
-    ensures { Nearer M.zero M.within dist.now best k result }
-{
-    match best {
-        None => k,
-        Some(b) => { if dist[b].at_most(dist[k]) { b } else { k } }
+impl<M: Measure> Front<'_, M> {
+    ghost use Rattle.std.specs.Prelude.{◌≡◌, ◌<◌, true, slice_index_or};
+    ghost use Rattle.search.specs.Marks.{mark, reached};
+    ghost use Rattle.search.specs.Fronts.{Picked, Inside, Nearer};
+    ghost use Rattle.search.specs.Tasks.{task_of};
+    ghost use Rattle.search.specs.Steps.{better, Entered, Relaxed};
+
+    // The nearer of the state best, if there is one, and the state k.
+    fn nearer(&self, best: Option<usize>, k: usize) -> usize
+        requires { (k < states self.now.hunt.now.net.now) × (Inside (states self.now.hunt.now.net.now) best) }
+        ensures { Nearer M.zero M.within self.now.dist.now best k result }
+    {
+        match best {
+            Some(b) if self.dist[b].at_most(self.dist[k]) => b,
+            _ => k,
+        }
     }
-}
 
-impl Front {
-    // The nearest of the states that are reached and not settled.
-    pub(crate) fn nearest_open<M: Measure>(&self, dist: &[M], states: usize) -> Option<usize>
-        requires { (states ≤ 128) × (states ≤ length dist.now) }
-        ensures { Picked M.zero M.within dist.now self.now.reached self.now.settled states result }
+    // The nearest of the open states.
+    pub(crate) fn nearest_open(&self) -> Option<usize>
+        ensures { Picked M.zero M.within self.now.dist.now self.now.marks (states self.now.hunt.now.net.now) result }
     {
         let mut best = None;
-        for k in 0..states {
-            if self.reached[k] && !self.settled[k] {
-                best = Some(nearer(dist, best, k));
+        for (k, mark) in self.marks[..2 * self.hunt.net.nodes].iter().enumerate() {
+            if mark.is_open() {
+                best = Some(self.nearer(best, k));
             }
         }
         best
     }
 
-    // Whether the state v is open to the distance reach: it is not settled, and not reached at that distance or a smaller one.
-    fn improves<M: Measure>(&self, dist: &[M], v: usize, reach: M) -> bool
-        requires { (v < 128) × (v < length dist.now) }
-        ensures { result ≡ better M.zero M.within self.now.settled self.now.reached dist.now v reach }
+    // Whether the distance reach improves the state v: v is not reached yet, or it is open and not at that distance or a smaller one.
+    fn improves(&self, v: usize, reach: M) -> bool
+        requires { v < states self.now.hunt.now.net.now }
+        ensures { result ≡ better M.within (mark self.now.marks v) (slice_index_or self.now.dist.now v M.zero) reach }
     {
-        if self.settled[v] {
-            false
-        } else if self.reached[v] {
-            !dist[v].at_most(reach)
-        } else {
-            true
+        match self.marks[v] {
+            Mark::Unreached => true,
+            Mark::Open(_) => !self.dist[v].at_most(reach),
+            Mark::Settled(_) => false,
         }
     }
 
     // Reaches the state v from the state u over the pipe at the place.
-    fn enter<M: Measure>(&mut self, dist: &mut [M], u: usize, v: usize, place: usize, reach: M)
-        requires { (u < 128) × ((v < 128) × ((v < length dist.old) × (place < 256))) }
-        ensures { Entered self.old dist.old u v place reach self.new dist.new }
+    fn enter(&mut self, u: usize, v: usize, place: usize, reach: M)
+        requires inside { (u < states self.old.hunt.now.net.now) × (v < states self.old.hunt.now.net.now) × (place < 256) }
+        requires from { reached self.old.marks u ≡ true }
+        ensures same { task_of self.new ≡ task_of self.old }
+        ensures entered { Entered self.old.marks self.old.dist.now u v place reach self.new.marks self.new.dist.now }
     {
-        let words = sum(self.ways[u].words, single(place + 1)); // the pipe comes in, or goes out where it was in
-        dist[v] = reach;
-        self.reached[v] = true;
-        self.ways[v] = Way { words };
+        let row = self.marks[u].row().unwrap();
+        self.dist[v] = reach;
+        self.marks[v] = Mark::Open(sum(row, single(place + 1))); // the pipe comes in, or goes out where it was in
     }
 
     // Reaches the state v from the state u over the pipe at the place, of the weight w, if v is not nearer already.
-    pub(crate) fn relax<M: Measure>(
-        &mut self,
-        dist: &mut [M],
-        u: usize,
-        v: usize,
-        place: usize,
-        w: M,
-    )
-        requires { (u < 128) × ((v < 128) × ((v < length dist.old) × ((u < length dist.old) × (place < 256)))) }
-        ensures { Relaxed M.zero M.join M.within self.old dist.old u v place w self.new dist.new }
+    pub(crate) fn relax(&mut self, u: usize, v: usize, place: usize, w: M)
+        requires inside { (u < states self.old.hunt.now.net.now) × (v < states self.old.hunt.now.net.now) × (place < 256) }
+        requires from { reached self.old.marks u ≡ true }
+        ensures same { task_of self.new ≡ task_of self.old }
+        ensures relaxed { Relaxed M.zero M.join M.within self.old.marks self.old.dist.now u v place w self.new.marks self.new.dist.now }
     {
-        let reach = dist[u].join(w);
-        if self.improves(dist, v, reach) {
-            self.enter(dist, u, v, place, reach);
+        let reach = self.dist[u].join(w);
+        if self.improves(v, reach) {
+            self.enter(u, v, place, reach);
         }
     }
 }

@@ -1,26 +1,30 @@
 // What is searched for, and where a pipe leads to. A state is a node with a parity: node v, from 1, with an even number of support pipes walked
 // is the state 2 * (v - 1), and with an odd number the state after it.
-ghost use Rattle.std.specs.Prelude.{◌≡◌, ◌*◌, ◌<◌, ◌≤◌, length};
-ghost use Rattle.search.specs.Fronts.{Inside};
-ghost use Rattle.search.specs.Tasks.{task, Sound, arc, arrival};
+ghost use Rattle.measures.specs.Laws.{KeepsOrder};
 
-use cycle_space::{Ends, has};
+use crate::layout::Layout;
+use cycle_space::has;
 use measures::Measure;
 
-// A search: over which net, with which support, from which node.
+// A search: over which net, and against which support.
 #[derive(Drop)]
-pub(crate) struct Hunt<'a, M> {
-    pub(crate) nodes: usize,
-    pub(crate) ends: &'a [Ends],
-    pub(crate) weights: &'a [M],
+pub(crate) struct Hunt<'a, M: Measure> {
+    pub(crate) net: &'a Layout<'a, M>,
     pub(crate) support: [u64; 4],
-    pub(crate) start: usize,
+    // what is joined to both sides keeps their order
+    ghost order: { KeepsOrder M.join M.within },
 }
 
 impl<M: Measure> Hunt<'_, M> {
+    ghost use Rattle.std.specs.Prelude.{◌≡◌, ◌*◌, ◌<◌, ◌≤◌, length};
+    ghost use Rattle.search.specs.Layouts.{states};
+    ghost use Rattle.search.specs.Fronts.{Inside};
+    ghost use Rattle.search.specs.Sought.{plan};
+    ghost use Rattle.search.specs.Tasks.{arc, arrival};
+
     // The state at the node, come to from the state u over the pipe at the place.
     fn arrival(&self, node: usize, u: usize, place: usize) -> usize
-        requires { (1 ≤ node) × ((node ≤ 64) × (place < 256)) }
+        requires { (1 ≤ node) × (node ≤ 64) × (place < 256) }
         ensures { result ≡ arrival self.now.support node u place }
     {
         if has(self.support, place + 1) {
@@ -32,13 +36,12 @@ impl<M: Measure> Hunt<'_, M> {
 
     // The state on the other side of the pipe at the place from the state u, if the pipe lies at u's node.
     pub(crate) fn across(&self, u: usize, place: usize) -> Option<usize>
-        requires sound { Sound (task M.zero M.join M.within self.now) }
-        requires laid { place < length self.now.ends.now }
-        ensures leads { result ≡ arc (task M.zero M.join M.within self.now) u place }
-        ensures inside { Inside (2 * self.now.nodes) result }
+        requires { place < length self.now.net.now.ends.now }
+        ensures leads { result ≡ arc (plan self.now.net.now) self.now.support u place }
+        ensures inside { Inside (states self.now.net.now) result }
     {
         let node = u / 2 + 1;
-        let ends = self.ends[place];
+        let ends = self.net.ends[place];
         if ends.first == node {
             Some(self.arrival(ends.second, u, place))
         } else if ends.second == node {

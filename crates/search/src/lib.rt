@@ -5,8 +5,8 @@ mod front;
 mod hunt;
 mod layout;
 mod lightest;
+mod mark;
 mod search;
-mod way;
 
 pub use layout::Layout;
 pub use lightest::{ScratchTooShort, lightest_odd};

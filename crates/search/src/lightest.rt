@@ -1,12 +1,14 @@
 // The lightest closed set that is odd against the support: a search from each node that a pipe of the support is drawn from.
-ghost use Rattle.std.specs.Prelude.{◌≡◌, ◌*◌, ◌<◌, ◌≤◌, false, length};
-ghost use Rattle.measures.specs.Laws.{KeepsOrder};
+ghost use Rattle.std.specs.Prelude.{◌≡◌, ◌≤◌, false, length};
+ghost use Rattle.search.specs.Layouts.{states};
+ghost use Rattle.search.specs.Tasks.{task};
 ghost use Rattle.search.specs.Sought.{Sought};
-ghost use Rattle.search.specs.Finds.{from_node, Start, choose, ClosedThrough, Lightest};
+ghost use Rattle.search.specs.Finds.{Start, choose, ClosedThrough, Lightest};
 
+use crate::front::Front;
 use crate::hunt::Hunt;
 use crate::layout::Layout;
-use crate::search::search;
+use crate::mark::Mark;
 use cycle_space::has;
 use measures::Measure;
 
@@ -21,84 +23,59 @@ pub(crate) struct Candidate<M> {
     pub(crate) row: [u64; 4],
 }
 
-// Whether a pipe of the support is drawn from the node.
-fn starts<M: Measure>(net: &Layout<M>, support: [u64; 4], node: usize) -> bool
-    ensures { result ≡ false → Start (from_node M.zero M.join M.within net.now support node) node → ⊥ }
-{
-    for (place, ends) in net.ends.iter().enumerate() {
-        if ends.first == node && has(support, place + 1) {
-            return true;
-        }
-    }
-    false
-}
-
-// The lightest odd closed walk through the node s.
-fn closed_through<M: Measure>(
-    net: &Layout<M>,
-    support: [u64; 4],
-    s: usize,
-    dist: &mut [M],
-) -> Option<Candidate<M>>
-    requires order { KeepsOrder M.join M.within }
-    requires room { 2 * net.now.nodes ≤ length dist.old }
-    requires inside { (1 ≤ s) × (s ≤ net.now.nodes) }
-    ensures { ClosedThrough (from_node M.zero M.join M.within net.now support s) result }
-{
-    let hunt = Hunt {
-        nodes: net.nodes,
-        ends: net.ends,
-        weights: net.weights,
-        support,
-        start: s,
-    };
-    let front = search(&hunt, dist);
-    let at = 2 * (s - 1) + 1;
-    if front.reached[at] {
-        Some(Candidate {
-            weight: dist[at],
-            row: front.ways[at].words,
-        })
-    } else {
-        None
-    }
-}
-
 // The lighter of two.
 fn lighter_of<M: Measure>(a: Option<Candidate<M>>, b: Option<Candidate<M>>) -> Option<Candidate<M>>
     ensures { result ≡ choose M.within a b }
 {
     match (a, b) {
-        (None, b) => b,
-        (Some(x), None) => Some(x),
-        (Some(x), Some(y)) => {
-            if x.weight.at_most(y.weight) {
-                Some(x)
-            } else {
-                Some(y)
-            }
-        }
+        (Some(x), Some(y)) => Some(if x.weight.at_most(y.weight) { x } else { y }),
+        _ => a.or(b),
     }
 }
 
-// The lightest of all starts.
-fn lightest_of_starts<M: Measure>(
-    net: &Layout<M>,
-    support: [u64; 4],
-    dist: &mut [M],
-) -> Option<Candidate<M>>
-    requires order { KeepsOrder M.join M.within }
-    requires room { 2 * net.now.nodes ≤ length dist.old }
-    ensures { Lightest (from_node M.zero M.join M.within net.now support 1) result }
-{
-    let mut best = None;
-    for s in 1..net.nodes + 1 {
-        if starts(net, support, s) {
-            let here = closed_through(net, support, s, dist);
-            best = lighter_of(best, here);
-        }
+impl<M: Measure> Hunt<'_, M> {
+    // Whether a pipe of the support is drawn from the node.
+    fn starts(&self, node: usize) -> bool
+        ensures { result ≡ false → Start (task self.now node) node → ⊥ }
+    {
+        let mut pipes = self.net.ends.iter().enumerate();
+        pipes.any(|(place, ends)| ends.first == node && has(self.support, place + 1))
     }
-    best
+
+    // The lightest odd closed walk through the node.
+    fn closed_through(&self, start: usize, dist: &mut [M]) -> Option<Candidate<M>>
+        requires inside { (1 ≤ start) × (start ≤ self.now.net.now.nodes) }
+        requires room { states self.now.net.now ≤ length dist.old }
+        ensures { ClosedThrough (task self.now start) result }
+    {
+        let at = 2 * (start - 1) + 1;
+        let mut front = Front {
+            hunt: self,
+            start,
+            dist,
+            marks: [Mark::Unreached; 128],
+        };
+        front.search();
+        let row = front.marks[at].row()?;
+        Some(Candidate {
+            weight: front.dist[at],
+            row,
+        })
+    }
+
+    // The lightest of all starts.
+    fn lightest(&self, dist: &mut [M]) -> Option<Candidate<M>>
+        requires { states self.now.net.now ≤ length dist.old }
+        ensures { Lightest (task self.now 1) result }
+    {
+        let mut best = None;
+        for start in 1..=self.net.nodes {
+            if self.starts(start) {
+                best = lighter_of(best, self.closed_through(start, dist));
+            }
+        }
+        best
+    }
 }
 
 // The lightest closed set of pipes that is odd against the support, or none where there is none such.
@@ -113,8 +90,11 @@ pub fn lightest_odd<M: Measure>(
         return Err(ScratchTooShort {});
     }
     M::join_keeps_order();
-    match lightest_of_starts(net, support, scratch) {
-        Some(found) => Ok(Some(found.row)),
-        None => Ok(None),
-    }
+    let hunt = Hunt { net, support };
+    let found = hunt.lightest(scratch);
+    Ok(found.map(
+        |found| -> [u64; 4]
+            ensures { result ≡ found.row }
+        { found.row },
+    ))
 }

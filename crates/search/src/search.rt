@@ -1,76 +1,62 @@
 // The search from one node: label-setting, over states.
-ghost use Rattle.std.specs.Prelude.{◌≡◌, ◌*◌, ◌<◌, ◌≤◌, true, length, slice_set};
-ghost use Rattle.measures.specs.Laws.{KeepsOrder};
+ghost use Rattle.std.specs.Prelude.{◌≡◌, ◌<◌};
+ghost use Rattle.search.specs.Layouts.{states};
 ghost use Rattle.search.specs.Fronts.{Nearest};
-ghost use Rattle.search.specs.Tasks.{task, Sound};
-ghost use Rattle.search.specs.Searches.{Searching, Settling, Shortest};
+ghost use Rattle.search.specs.Tasks.{task_of};
+ghost use Rattle.search.specs.Searches.{Searching, Settling, Shortest, unsettled};
 
 use crate::front::Front;
-use crate::hunt::Hunt;
-use crate::way::Way;
+use crate::mark::Mark;
 use measures::Measure;
 
-impl Front {
-    // The front before the first turn: the start is reached, and nothing else.
-    fn at_start<M: Measure>(hunt: &Hunt<M>, dist: &mut [M]) -> Front
-        requires order { KeepsOrder M.join M.within }
-        requires sound { Sound (task M.zero M.join M.within hunt.now) }
-        requires room { 2 * hunt.now.nodes ≤ length dist.old }
-        ensures { Searching (task M.zero M.join M.within hunt.now) result dist.new }
+impl<M: Measure> Front<'_, M> {
+    // Reaches the start, and nothing else.
+    fn begin(&mut self)
+        ensures same { task_of self.new ≡ task_of self.old }
+        ensures searching { Searching (task_of self.new) self.new.marks self.new.dist.now }
     {
-        let s = 2 * (hunt.start - 1);
-        dist[s] = M::zero();
-        let mut reached = [false; 128];
-        reached[s] = true;
-        let way = Way { words: [0; 4] };
-        Front {
-            reached,
-            settled: [false; 128],
-            ways: [way; 128],
-        }
+        let s = 2 * (self.start - 1);
+        self.dist[s] = M::zero();
+        self.marks = [Mark::Unreached; 128];
+        self.marks[s] = Mark::Open([0; 4]);
     }
 
     // Relaxes every pipe at the node of the state u, which has just been settled.
-    fn spread<M: Measure>(&mut self, hunt: &Hunt<M>, dist: &mut [M], u: usize)
-        requires order { KeepsOrder M.join M.within }
-        requires sound { Sound (task M.zero M.join M.within hunt.now) }
-        requires inside { u < 2 * hunt.now.nodes }
-        requires settling { Settling (task M.zero M.join M.within hunt.now) u 0 self.old dist.old }
-        ensures same { self.new.settled ≡ self.old.settled }
-        ensures settling { Settling (task M.zero M.join M.within hunt.now) u (length hunt.now.weights.now) self.new dist.new }
+    fn spread(&mut self, u: usize)
+        requires inside { u < states self.old.hunt.now.net.now }
+        requires settling { Settling (task_of self.old) u 0 self.old.marks self.old.dist.now }
+        ensures same { task_of self.new ≡ task_of self.old }
+        ensures left { unsettled self.new.marks ≡ unsettled self.old.marks }
+        ensures settling { Settling (task_of self.new) u (task_of self.new).shape.pipes self.new.marks self.new.dist.now }
     {
-        let weights: &[M] = hunt.weights;
-        for j in 0..weights.len() {
-            if let Some(v) = hunt.across(u, j) {
-                self.relax(dist, u, v, j, weights[j]);
+        for (place, weight) in self.hunt.net.weights.iter().enumerate() {
+            if let Some(v) = self.hunt.across(u, place) {
+                self.relax(u, v, place, *weight);
             }
         }
     }
 
     // Settles u, the nearest of the open states.
-    fn settle<M: Measure>(&mut self, hunt: &Hunt<M>, dist: &mut [M], u: usize)
-        requires order { KeepsOrder M.join M.within }
-        requires sound { Sound (task M.zero M.join M.within hunt.now) }
-        requires searching { Searching (task M.zero M.join M.within hunt.now) self.old dist.old }
-        requires nearest { Nearest M.zero M.within dist.old self.old.reached self.old.settled (2 * hunt.now.nodes) u }
-        ensures marks { self.new.settled ≡ slice_set self.old.settled u true }
-        ensures searching { Searching (task M.zero M.join M.within hunt.now) self.new dist.new }
+    fn settle(&mut self, u: usize)
+        requires searching { Searching (task_of self.old) self.old.marks self.old.dist.now }
+        requires nearest { Nearest M.zero M.within self.old.dist.now self.old.marks (states self.old.hunt.now.net.now) u }
+        ensures same { task_of self.new ≡ task_of self.old }
+        ensures fewer { unsettled self.new.marks < unsettled self.old.marks }
+        ensures searching { Searching (task_of self.new) self.new.marks self.new.dist.now }
     {
-        self.settled[u] = true;
-        self.spread(hunt, dist, u);
+        let row = self.marks[u].row().unwrap();
+        self.marks[u] = Mark::Settled(row);
+        self.spread(u);
     }
-}
 
-// Searches until every reached state is settled.
-pub(crate) fn search<M: Measure>(hunt: &Hunt<M>, dist: &mut [M]) -> Front
-    requires order { KeepsOrder M.join M.within }
-    requires sound { Sound (task M.zero M.join M.within hunt.now) }
-    requires room { 2 * hunt.now.nodes ≤ length dist.old }
-    ensures { Shortest (task M.zero M.join M.within hunt.now) result dist.new }
-{
-    let mut front = Front::at_start(hunt, dist);
-    while let Some(u) = front.nearest_open(dist, 2 * hunt.nodes) {
-        front.settle(hunt, dist, u);
+    // Searches from the start until every reached state is settled.
+    pub(crate) fn search(&mut self)
+        ensures same { task_of self.new ≡ task_of self.old }
+        ensures shortest { Shortest (task_of self.new) self.new.marks self.new.dist.now }
+    {
+        self.begin();
+        while let Some(u) = self.nearest_open() {
+            self.settle(u);
+        }
     }
-    front
 }

@@ -1,24 +1,22 @@
-use Rattle.std.proofs.Common.{◌+◌, sym, subst}
-use borrow.Author.Tests.{both_ways}
-use Rattle.search.specs.Fronts.{Picked}
+use Rattle.std.proofs.Common.{◌≡◌, ◌*◌, length, rules, sym, ap, ◌∙◌, arith}
+use Rattle.std.proofs.lemmas.List.{length-take-le, get_or-take}
+use Rattle.search.specs.declared.mark.Mark.TheVariants.{Unreached}
+use Rattle.search.specs.Marks.{is_open, opened}
 use Rattle.search.proofs.Picks.{pick_skip, pick_next}
 use Rattle.search.proofs.front.Front.nearest_open.Goals as goal
-use Rattle.search.proofs.front.Front.nearest_open.Goals.{then-self-k+then-not-self-k, else-self-k, else-self-k-via-then-self-k+else-not-self-k, else-self-k-via-else-self-k}
+use Rattle.search.proofs.front.Front.nearest_open.Goals.{then-is_open, else-is_open}
 
 pub loop-k-preserved : goal.loop-k-preserved
 loop-k-preserved g c =
-    let m = g.M.Measure in
-    let at = Picked m.zero m.within c.args.dist.now c.args.self.now.reached c.args.self.now.settled (c.loop-k.k + 1) in
-    elim c.if-self-k.branch [
-      | then-self-k+then-not-self-k w ↦
-          subst at (sym w.best-is)
-          (pick_next g.met.M.Measure.lawful _ _ _ _ _ _ c.loop-k.invariant
-          (record { in_reach = w.if-self-k.true; unsettled = w.if-not-self-k.true }) w.nearer.ensures)
-      | else-self-k w ↦
-          subst at (sym w.best-is)
-          (pick_skip g.met.M.Measure.lawful _ _ _ _ _ c.loop-k.invariant
-          (λ o. elim w.else-self-k.branch [
-            | else-self-k-via-then-self-k+else-not-self-k w' ↦ both_ways _ o.unsettled w'.if-not-self-k.false
-            | else-self-k-via-else-self-k w' ↦ both_ways _ w'.if-self-k.false o.in_reach
-          ]))
+    let f = c.args.self.now in
+    let k = c.loop-k.k in
+    let n = 2 * f.hunt.now.net.now.nodes in
+    let few = f.hunt.now.net.now.few_nodes in
+    let long : length f.marks ≡ 128 = search rules in
+    let taken = length-take-le n f.marks (omega arith) in
+    let below = c.loop-k-test.true in
+    let is : opened f.marks k ≡ c.is_open.result = ap is_open (sym (get_or-take n f.marks k Unreached (omega arith))) ∙ sym c.is_open.ensures in
+    elim c.if-is_open.branch [
+      | then-is_open w ↦ rw w.best-is (pick_next g.met.M.Measure.lawful _ _ k _ _ c.loop-k.invariant (is ∙ w.if-is_open.true) w.nearer.ensures)
+      | else-is_open w ↦ rw w.best-is (pick_skip g.met.M.Measure.lawful _ _ k _ c.loop-k.invariant (is ∙ w.if-is_open.false))
     ]

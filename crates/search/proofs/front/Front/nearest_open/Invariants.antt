@@ -1,7 +1,6 @@
 use Rattle.search.specs.Fronts.{Picked}
 use Rattle.search.proofs.front.Front.nearest_open.Given as goal
 
+-- the nearest of the open states so far
 abbrev pub invariant-loop-k : goal.invariant-loop-k
-invariant-loop-k g l =
-    let m = g.M.Measure in
-    Picked m.zero m.within l.dist l.self.reached l.self.settled l.k l.best
+invariant-loop-k g l = Picked g.M.Measure.zero g.M.Measure.within l.self.dist.now l.self.marks l.k l.best

@@ -1,10 +1,12 @@
 use Rattle.std.proofs.Common.{◌≡◌}
-use Rattle.search.specs.Tasks.{task}
-use Rattle.search.specs.Searches.{Settling}
+use Rattle.search.specs.Tasks.{task_of}
+use Rattle.search.specs.Searches.{Settling, unsettled}
 use Rattle.search.proofs.front.Front.spread.Given as goal
 
 -- the pipes so far are relaxed, and no state is settled besides
-abbrev pub invariant-loop-j : goal.invariant-loop-j
-invariant-loop-j g l =
-    let m = g.M.Measure in
-    (l.self.settled ≡ l.initial.self.settled) × Settling (task m.zero m.join m.within l.hunt) l.u l.j l.self l.dist
+abbrev pub invariant-loop-place : goal.invariant-loop-place
+invariant-loop-place g l = record {
+  same : task_of l.self ≡ task_of l.initial.self;
+  left : unsettled l.self.marks ≡ unsettled l.initial.self.marks;
+  settling : Settling (task_of l.self) l.u l.place l.self.marks l.self.dist.now;
+}
