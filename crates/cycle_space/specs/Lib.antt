@@ -7,3 +7,4 @@ pub mod Bases
 pub mod Supports
 pub mod Rivals
 pub mod Lightest
+pub mod Props

@@ -15,7 +15,7 @@ use Rattle.net.specs.Views.{view, rings}
 use Rattle.net.specs.declared.tables.Tables.{Tables}
 use Rattle.cycle_space.specs.declared.ends.Ends.{Ends}
 use Rattle.net.specs.declared.net.Net.{Net}
-use Rattle.cycle_space.proofs.Props.{sound_prop}
+use Rattle.cycle_space.specs.Props.{sound_prop}
 use Rattle.net.proofs.Keeping.{laid_pipes}
 use Rattle.net.proofs.Views.{as_many, seen_length, ends_seen, weighed}
 
