@@ -10,7 +10,7 @@ use Rattle.net.specs.Calls.{AddDeclined, LayDeclined, end_is_no_node, ends_are_o
 use Rattle.net.specs.declared.net.Net.{Net}
 use Rattle.net.specs.declared.refusal.Refusal.{Refusal}
 use Rattle.net.specs.declared.refusal.Refusal.TheVariants.{NodesFull, PipesFull, NoSuchPipe, NoSuchRing}
-use Rattle.net.proofs.Kept.{kept, pipes_seen, rings_seen, rings_few, ring_seen}
+use Rattle.net.proofs.Kept.{pipes_seen, rings_seen, rings_few, ring_seen}
 use Rattle.net.proofs.Keeping.{supports_stored}
 use Rattle.net.proofs.Turning.{blank, read_row}
 
@@ -59,14 +59,14 @@ module _ {M : Type 0} (n : Net M) where
 
   pub ring_read : (i : ℕ) → true ≡ (leb 1 i && leb i n.tables.found) → (get_or n.tables.rows (i - 1) blank).words ≡ ring_row n i
   ring_read i h =
-      let size = (kept n).places.1 in
+      let size = n.keeps.places.1 in
       let p = ring_place i h in
       let l = p.1 in
       read_row n.tables.rows (i - 1) (omega arith) ∙ sym (ring_seen n (i - 1) p.0)
 
   pub support_read : (i : ℕ) → true ≡ (leb 1 i && leb i n.tables.found) → (get_or n.tables.supports (i - 1) blank).words ≡ support n i
   support_read i h =
-      let size = (kept n).places.2 in
+      let size = n.keeps.places.2 in
       let p = ring_place i h in
       let l = p.1 in
       read_row n.tables.supports (i - 1) (omega arith) ∙ sym (supports_stored n.tables (i - 1) (λ e. let q = p.0 in omega arith))

@@ -23,14 +23,14 @@ use Rattle.net.specs.declared.tables.StoredRow.{StoredRow}
 use Rattle.net.specs.declared.tables.Tables.{Tables}
 use Rattle.net.specs.declared.refusal.Refusal.{Refusal}
 use Rattle.net.specs.declared.refusal.Refusal.TheVariants.{Complete, ScratchTooShort}
-use Rattle.net.proofs.Kept.{kept, ends_for_all, ends_are_nodes, rings_seen, view_shape, laid_few}
+use Rattle.net.proofs.Kept.{ends_for_all, ends_are_nodes, rings_seen, view_shape, laid_few}
 use Rattle.net.proofs.Keeping.{supports_stored, ring_found}
 
 module _ {M : Type 0} (n : Net M) where
   -- what every net keeps is what the search wants
   pub laid : Laid n.tables.nodes (take n.tables.pipes n.tables.ends) (length (take n.tables.pipes n.column.now))
   laid =
-      let k = kept n in
+      let k = n.keeps in
       let few = k.few_pipes in
       let long : length (take n.tables.pipes n.tables.ends) ≡ n.tables.pipes = length-take-le n.tables.pipes n.tables.ends (ends_for_all n) in
       let same : (j : ℕ) → j < n.tables.pipes → get_or n.tables.ends j nowhere ≡ get_or (take n.tables.pipes n.tables.ends) j nowhere =
@@ -65,7 +65,7 @@ module _ {M : Type 0} (n : Net M) where
     -- fewer rings are found than there are closing pipes
     pub still_due : n.tables.found < rank (laid_out n.tables)
     still_due =
-        let most = (kept n).sound.not_over in
+        let most = n.keeps.sound.not_over in
         let other : n.tables.found ≡ rank (laid_out n.tables) → ⊥ = λ e.
         more (subst (Due (shape (view n))) (ap rank (view_shape n) ∙ sym (rings_seen n ∙ e)) (due_rank (shape (view n)) (ends_are_nodes n))) in
         omega arith
@@ -77,13 +77,13 @@ module _ {M : Type 0} (n : Net M) where
         let N : Shape = laid_out n.tables in
         let most = count_le N.pipes (closes N) in
         let pipes = laid_few n in
-        let few = (kept n).few_pipes in
+        let few = n.keeps.few_pipes in
         omega arith
 
     -- a set that is odd against the next support is there
     pub some_ring : ((x : Row) → Closed (laid_out n.tables) x → odd x (supports_of n.tables n.tables.found) ≡ true → ⊥) → ⊥
     some_ring none =
-        let x = due_ring (laid_out n.tables) n.tables.found (row_at n.tables.rows) (supports_of n.tables) (kept n).sound still_due in
+        let x = due_ring (laid_out n.tables) n.tables.found (row_at n.tables.rows) (supports_of n.tables) n.keeps.sound still_due in
         none x.0 x.1 x.2
 
     module _ (scratch : List M) where
@@ -151,7 +151,7 @@ module _ {M : Type 0} (none : M) (join : M → M → M) (within : M → M → Bo
   pub ring_kept : n.tables.found < rank (laid_out n.tables) → length supports ≡ 256 → Keeps (one_ring_more n.tables c supports)
   ring_kept due size =
       let t : Tables = n.tables in
-      let k = kept n in
+      let k = n.keeps in
       let long = k.places.1 in
       ring_found t k due c least.closed least.is_odd (set t.rows t.found (record { words = c })) supports
       (length-set t.rows t.found (record { words = c }) ∙ k.places.1) size
@@ -159,7 +159,7 @@ module _ {M : Type 0} (none : M) (join : M → M → M) (within : M → M → Bo
       (ap (λ r. r.words) (get_or-set_same t.rows t.found (record { words = c }) no_pipes (omega arith)))
       later
 
-  module _ (fits : n.tables.pipes ≤ length n.column.now) (keeps : ∥ Keeps (one_ring_more n.tables c supports) ∥₁) where
+  module _ (fits : n.tables.pipes ≤ length n.column.now) (keeps : Keeps (one_ring_more n.tables c supports)) where
     -- the net after
     abbrev pub after : Net M
     after = record { column = n.column; tables = one_ring_more n.tables c supports; fits = fits; keeps = keeps }
@@ -171,7 +171,7 @@ module _ {M : Type 0} (none : M) (join : M → M → M) (within : M → M → Bo
     found_next =
         let k : ℕ = n.tables.found in
         let back : k + 1 - 1 ≡ k = omega arith in
-        let size = (kept n).places.1 in
+        let size = n.keeps.places.1 in
         record {
           ring = c;
           next_number = ap (λ l. l + 1) (sym (rings_seen n));

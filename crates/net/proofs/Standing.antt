@@ -20,7 +20,7 @@ use Rattle.net.specs.Promise.{Answers, KeepsItsPromise}
 use Rattle.net.specs.declared.net.Net.{Net}
 use Rattle.net.specs.declared.refusal.Refusal.{Refusal}
 use Rattle.net.specs.declared.refusal.Refusal.TheVariants.{Complete}
-use Rattle.net.proofs.Kept.{kept, rings_seen, ring_seen, view_shape, ends_are_nodes}
+use Rattle.net.proofs.Kept.{rings_seen, ring_seen, view_shape, ends_are_nodes}
 use Rattle.net.proofs.Histories.{State, state}
 
 -- a measure's values are joined and ordered as the theory wants it
@@ -51,7 +51,7 @@ module _ {M : Type 0} (zero' : M) (join : M → M → M) (within : M → M → B
     nodes = subst (λ v. EndsAreNodes (shape v)) s.seen (ends_are_nodes n);
     sound = as_rings (λ i l. sym (ring_seen n i (let e = rings_seen n in omega arith)))
         (subst₂ (λ N j. Sound N j (row_at n.tables.rows) (supports_of n.tables))
-        (sym (view_shape n) ∙ ap shape s.seen) (sym (rings_seen n)) (kept n).sound);
+        (sym (view_shape n) ∙ ap shape s.seen) (sym (rings_seen n)) n.keeps.sound);
     least = λ i l x c is_odd.
         subst (λ v. within (weight zero' join v (get_or (rings n) i empty)) (weight zero' join v x) ≡ true) s.seen
         (s.least i l x (subst (λ v. Closed (shape v) x) (sym s.seen) c)

@@ -1,5 +1,6 @@
 pub mod Refusals
 pub mod Keeps
+pub mod Props
 pub mod Views
 pub mod Calls
 pub mod Histories

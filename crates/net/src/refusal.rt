@@ -10,21 +10,21 @@ use std::fmt;
 #[derive(Clone, Copy, PartialEq, Eq, Debug)]
 pub enum Refusal {
     // There are 64 nodes already.
-    NodesFull,
+    NodesFull = 1,
     // An end is no node.
-    NoSuchNode,
+    NoSuchNode = 2,
     // Both ends are one node.
-    OneNode,
+    OneNode = 3,
     // There are 256 pipes already, or the column is full.
-    PipesFull,
+    PipesFull = 4,
     // There is no such pipe.
-    NoSuchPipe,
+    NoSuchPipe = 5,
     // All due rings are found.
-    Complete,
+    Complete = 6,
     // The scratch has too few places.
-    ScratchTooShort,
+    ScratchTooShort = 7,
     // No such ring is found.
-    NoSuchRing,
+    NoSuchRing = 8,
 }
 
 impl From<ScratchTooShort> for Refusal {
@@ -47,16 +47,7 @@ impl Refusal {
     pub fn number(self) -> u8
         ensures { result ≡ number self }
     {
-        match self {
-            Refusal::NodesFull => 1,
-            Refusal::NoSuchNode => 2,
-            Refusal::OneNode => 3,
-            Refusal::PipesFull => 4,
-            Refusal::NoSuchPipe => 5,
-            Refusal::Complete => 6,
-            Refusal::ScratchTooShort => 7,
-            Refusal::NoSuchRing => 8,
-        }
+        self as u8
     }
 
     // The reason, in words.

@@ -1,18 +1,17 @@
 use Rattle.std.proofs.Common.{refl, arith}
-use Rattle.net.proofs.Kept.{kept}
 use Rattle.net.proofs.Keeping.{nodes_added, supports_remain}
 use Rattle.net.proofs.Replies.{nodes_full, adds}
 use Rattle.net.proofs.net.Net.add_node.Goals as goal
 
 pub returns-then-nodes-ge-MOST_NODES : goal.returns-then-nodes-ge-MOST_NODES
 returns-then-nodes-ge-MOST_NODES g c =
-    let few = (kept c.args.self.now).few_nodes in
+    let few = c.args.self.now.keeps.few_nodes in
     record { replied = (nodes_full c.args.self.now (omega arith), refl); lent = refl }
 
 pub invariant_of-self : goal.invariant_of-self
 invariant_of-self g c =
     let n = c.args.self.now in
-    record { fits = n.fits; keeps = ∣ nodes_added n.tables (kept n) _ (omega arith) (omega arith) ∣₁ }
+    record { fits = n.fits; keeps = nodes_added n.tables n.keeps _ (omega arith) (omega arith) }
 
 pub returns : goal.returns
 returns g c =

@@ -7,7 +7,7 @@ use Rattle.cycle_space.specs.Supports.{alone}
 use Rattle.net.specs.Keeps.{nowhere}
 use Rattle.net.specs.Views.{view}
 use Rattle.net.specs.Labelled.{labelled}
-use Rattle.net.proofs.Kept.{kept, ends_small, first_seen, second_seen, shape_pipes, view_shape}
+use Rattle.net.proofs.Kept.{ends_small, first_seen, second_seen, shape_pipes, view_shape}
 use Rattle.net.proofs.Labelling.{label_next}
 use Rattle.net.proofs.Beginning.{Begun, begun_none, begun_few, begun_closing, begun_other, begun_all}
 use Rattle.net.proofs.net.Net.closing_pipes.Goals as goal
@@ -17,29 +17,29 @@ pub loop-j-init : goal.loop-j-init
 loop-j-init g c = begun_none (shape (view c.args.self.now)) c.own-labels.result _ refl c.own-labels.ensures
 
 pub offset_bounds-self-j : goal.offset_bounds-self-j
-offset_bounds-self-j g c = let few = (kept c.args.self.now).few_pipes in omega arith
+offset_bounds-self-j g c = let few = c.args.self.now.keeps.few_pipes in omega arith
 
 pub bounds-self-j : goal.bounds-self-j
-bounds-self-j g c = let few = (kept c.args.self.now).few_pipes in omega arith
+bounds-self-j g c = let few = c.args.self.now.keeps.few_pipes in omega arith
 
 pub joined-requires : goal.joined-requires
 joined-requires g c = ends_small c.args.self.now c.loop-j.j c.loop-j-test.true
 
 pub offset_bounds-of-closing : goal.offset_bounds-of-closing
 offset_bounds-of-closing g c =
-    let few = (kept c.args.self.now).few_pipes in
+    let few = c.args.self.now.keeps.few_pipes in
     let most = begun_few _ _ _ _ _ c.loop-j.invariant in
     omega arith
 
 pub bounds-of-closing : goal.bounds-of-closing
 bounds-of-closing g c =
-    let few = (kept c.args.self.now).few_pipes in
+    let few = c.args.self.now.keeps.few_pipes in
     let most = begun_few _ _ _ _ _ c.loop-j.invariant in
     omega arith
 
 pub overflow_add-closing : goal.overflow_add-closing
 overflow_add-closing g c =
-    let few = (kept c.args.self.now).few_pipes in
+    let few = c.args.self.now.keeps.few_pipes in
     let most = begun_few _ _ _ _ _ c.loop-j.invariant in
     omega arith
 
@@ -51,7 +51,7 @@ loop-j-preserved g c =
     let n = c.args.self.now in
     let N : Shape = shape (view n) in
     let j : ℕ = c.loop-j.j in
-    let few = (kept n).few_pipes in
+    let few = n.keeps.few_pipes in
     let pipes = shape_pipes n in
     let l : j < n.tables.pipes = c.loop-j-test.true in
     let ends : Ends = get_or n.tables.ends j nowhere in
@@ -73,7 +73,7 @@ loop-j-preserved g c =
 pub returns : goal.returns
 returns g c =
     let n = c.args.self.now in
-    let few = (kept n).few_pipes in
+    let few = n.keeps.few_pipes in
     let pipes = shape_pipes n in
     let low = c.loop-j.auto.j-end in
     let end = c.loop-j-test.false in

@@ -3,14 +3,14 @@ use Rattle.cycle_space.specs.Shapes.{Shape, Due}
 use Rattle.cycle_space.specs.Moments.{shape}
 use Rattle.cycle_space.proofs.Due.{parts_few, parts_enough, due_is_closing}
 use Rattle.net.specs.Views.{view}
-use Rattle.net.proofs.Kept.{kept, ends_are_nodes, shape_pipes, pipes_seen}
+use Rattle.net.proofs.Kept.{ends_are_nodes, shape_pipes, pipes_seen}
 use Rattle.net.proofs.net.Net.due.Goals as goal
 
 pub overflow_add-result : goal.overflow_add-result
 overflow_add-result g c =
     let n = c.args.self.now in
-    let few = (kept n).few_nodes in
-    let most = (kept n).few_pipes in
+    let few = n.keeps.few_nodes in
+    let most = n.keeps.few_pipes in
     let pipes : c.pipes.result ≡ n.tables.pipes = c.pipes.ensures ∙ pipes_seen n in
     let parts = parts_few (shape (view n)) (ends_are_nodes n) c.parts.result c.parts.ensures in
     omega arith

@@ -1,5 +1,5 @@
 use Rattle.std.proofs.Common.{sym, arith}
-use Rattle.net.proofs.Kept.{kept, first_seen, second_seen}
+use Rattle.net.proofs.Kept.{first_seen, second_seen}
 use Rattle.net.proofs.Replies.{counted, no_such_pipe, is_pipe}
 use Rattle.net.proofs.net.Net.ends.Goals as goal
 
@@ -8,13 +8,13 @@ returns-then-not-has_pipe g c = no_such_pipe c.args.self.now c.args.pipe c.if-no
 
 pub offset_bounds-self-pipe : goal.offset_bounds-self-pipe
 offset_bounds-self-pipe g c =
-    let few = (kept c.args.self.now).few_pipes in
+    let few = c.args.self.now.keeps.few_pipes in
     let is = (counted c.args.self.now.tables.pipes c.args.pipe c.if-not-has_pipe.ensures).1 in
     omega arith
 
 pub bounds-self-pipe : goal.bounds-self-pipe
 bounds-self-pipe g c =
-    let few = (kept c.args.self.now).few_pipes in
+    let few = c.args.self.now.keeps.few_pipes in
     let is = counted c.args.self.now.tables.pipes c.args.pipe c.if-not-has_pipe.ensures in
     omega (arith, is.0, is.1)
 

@@ -1,7 +1,7 @@
 use Rattle.std.proofs.Common.{sym, ap, ◌∙◌, arith}
 use Rattle.cycle_space.specs.Moments.{weight}
 use Rattle.net.specs.Views.{view, rings}
-use Rattle.net.proofs.Kept.{kept, rings_few, rings_seen, ring_seen}
+use Rattle.net.proofs.Kept.{rings_few, rings_seen, ring_seen}
 use Rattle.net.proofs.Turning.{read_row}
 use Rattle.net.proofs.Weighing.{joined_next, joined_none, joined_all}
 use Rattle.net.proofs.net.Net.joined_weight.Goals as goal
@@ -20,7 +20,7 @@ loop-i-preserved g c =
     let n = c.args.self.now in
     let m = g.M.Measure in
     let few = rings_few n in
-    let size = (kept n).places.1 in
+    let size = n.keeps.places.1 in
     let so_many = rings_seen n in
     joined_next g.met.M.Measure.lawful (view n) (rings n) c.loop-i.i c.loop-i.joined _ (omega arith)
     (c.join-joined.ensures

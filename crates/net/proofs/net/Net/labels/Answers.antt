@@ -2,15 +2,15 @@ use Rattle.std.proofs.Common.{◌≡◌, suc, ◌+◌, ap, ◌∙◌, arith}
 use Rattle.cycle_space.specs.Labels.{label}
 use Rattle.cycle_space.specs.Moments.{shape}
 use Rattle.net.specs.Views.{view}
-use Rattle.net.proofs.Kept.{kept, ends_small, first_seen, second_seen, shape_pipes}
+use Rattle.net.proofs.Kept.{ends_small, first_seen, second_seen, shape_pipes}
 use Rattle.net.proofs.Labelling.{label_next}
 use Rattle.net.proofs.net.Net.labels.Goals as goal
 
 pub offset_bounds-self-j : goal.offset_bounds-self-j
-offset_bounds-self-j g c = let few = (kept c.args.self.now).few_pipes in omega arith
+offset_bounds-self-j g c = let few = c.args.self.now.keeps.few_pipes in omega arith
 
 pub bounds-self-j : goal.bounds-self-j
-bounds-self-j g c = let few = (kept c.args.self.now).few_pipes in omega arith
+bounds-self-j g c = let few = c.args.self.now.keeps.few_pipes in omega arith
 
 pub lay-requires : goal.lay-requires
 lay-requires g c = ends_small c.args.self.now c.loop-j.j c.loop-j-test.true

@@ -1,7 +1,7 @@
 use Rattle.std.proofs.Common.{◌<◌, length, set, sym, refl, ap, arith}
 use Rattle.std.proofs.lemmas.List.{length-set}
 use Rattle.net.specs.Calls.{Room}
-use Rattle.net.proofs.Kept.{kept, ends_for_all, pipes_seen}
+use Rattle.net.proofs.Kept.{ends_for_all, pipes_seen}
 use Rattle.net.proofs.Keeping.{pipe_laid}
 use Rattle.net.proofs.Replies.{counted, pipes_full, lays}
 use Rattle.net.proofs.Views.{seen_laid}
@@ -29,20 +29,20 @@ invariant_of-self g c =
     let b = counted n.tables.nodes c.args.second c.if-not-has_node-2.ensures in
     record {
       fits = simp length-set (omega arith);
-      keeps = ∣ pipe_laid n.tables (kept n) _
+      keeps = pipe_laid n.tables n.keeps _
           (record {
             first_in = (omega (arith, a.0, b.0), omega (arith, a.1, b.1));
             second_in = (omega (arith, a.0, b.0), omega (arith, a.1, b.1));
             apart = λ e. omega (arith, c.if-first-second.false);
           })
-          _ _ (omega arith) (omega arith) c.if-place-ge-MOST_PIPES.false ∣₁;
+          _ _ (omega arith) (omega arith) c.if-place-ge-MOST_PIPES.false;
     }
 
 pub returns : goal.returns
 returns g c =
     let n = c.args.self.now in
     let e = pipes_seen n in
-    let few : n.tables.pipes < length n.tables.ends = (let k = (kept n).places.0 in omega arith) in
+    let few : n.tables.pipes < length n.tables.ends = (let k = n.keeps.places.0 in omega arith) in
     record {
       replied = (
         lays n c.args.first c.args.second c.if-not-has_node.ensures c.if-not-has_node-2.ensures c.if-first-second.false (omega arith, omega arith),

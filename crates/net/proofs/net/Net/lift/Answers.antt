@@ -1,5 +1,5 @@
 use Rattle.std.proofs.Common.{sym, refl, arith}
-use Rattle.net.proofs.Kept.{kept, ends_for_all, pipes_seen}
+use Rattle.net.proofs.Kept.{ends_for_all, pipes_seen}
 use Rattle.net.proofs.Keeping.{no_more_pipes}
 use Rattle.net.proofs.Replies.{lifts}
 use Rattle.net.proofs.Views.{seen_lifted}
@@ -9,7 +9,7 @@ pub invariant_of-self : goal.invariant_of-self
 invariant_of-self g c =
     let n = c.args.self.now in
     let fits = n.fits in
-    record { fits = omega arith; keeps = ∣ no_more_pipes n.tables (kept n) _ _ (omega arith) (omega arith) ∣₁ }
+    record { fits = omega arith; keeps = no_more_pipes n.tables n.keeps _ _ (omega arith) (omega arith) }
 
 pub returns : goal.returns
 returns g c =

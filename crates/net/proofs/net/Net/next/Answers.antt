@@ -87,12 +87,12 @@ invariant_of-self g c =
     let long : length c.supports-supports.result.of ≡ 256 = search rules in
     record {
       fits = n.fits;
-      keeps = ∣ ring_kept m.zero m.join m.within n c.in-Some.ring c.turn.new.self.of room
+      keeps = ring_kept m.zero m.join m.within n c.in-Some.ring c.turn.new.self.of room
           (lightest_as c.layout.ensures.drawn c.layout.ensures.weighed
           (read_row c.supports-supports.result.of n.tables.found (omega arith) ∙ c.supports-supports.ensures n.tables.found)
           (subst (Found m.zero m.join m.within c.layout.result (get_or c.supports-supports.result.of n.tables.found blank).words) c.in-Some.is c.in_ok-ring.ensures.1))
           (extended_as c.supports-supports.ensures c.turn.ensures.turned)
-          (still_due n (not_so_when c.is_complete.result c.is_complete.ensures c.if-is_complete.false)) c.turn.ensures.long ∣₁;
+          (still_due n (not_so_when c.is_complete.result c.is_complete.ensures c.if-is_complete.false)) c.turn.ensures.long;
     }
 
 pub overflow_add-result : goal.overflow_add-result

@@ -5,7 +5,7 @@ use Rattle.net.proofs.Standing.{promise}
 use Rattle.net.proofs.net.Net.open.Goals as goal
 
 pub invariant_of-result : goal.invariant_of-result
-invariant_of-result g c = record { fits = omega arith; keeps = ∣ begun _ refl refl refl (omega arith) refl (omega arith) ∣₁ }
+invariant_of-result g c = record { fits = omega arith; keeps = begun _ refl refl refl (omega arith) refl (omega arith) }
 
 pub returns : goal.returns
 returns g c = record {

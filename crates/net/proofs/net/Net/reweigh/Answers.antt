@@ -2,7 +2,7 @@ use Rattle.std.proofs.Common.{◌≡◌, ◌+◌, ◌-◌, refl, ap, ◌∙◌, 
 use Rattle.std.proofs.lemmas.List.{length-set}
 use Rattle.cycle_space.specs.Moments.{reweigh_pipe}
 use Rattle.net.specs.Views.{view}
-use Rattle.net.proofs.Kept.{kept, ends_for_all}
+use Rattle.net.proofs.Kept.{ends_for_all}
 use Rattle.net.proofs.Keeping.{no_more_pipes}
 use Rattle.net.proofs.Replies.{counted, no_such_pipe, is_pipe}
 use Rattle.net.proofs.Views.{seen_reweighed}
@@ -15,7 +15,7 @@ pub invariant_of-self : goal.invariant_of-self
 invariant_of-self g c =
     let n = c.args.self.now in
     let fits = n.fits in
-    record { fits = simp length-set (omega arith); keeps = ∣ no_more_pipes n.tables (kept n) _ _ (omega arith) (omega arith) ∣₁ }
+    record { fits = simp length-set (omega arith); keeps = no_more_pipes n.tables n.keeps _ _ (omega arith) (omega arith) }
 
 pub returns : goal.returns
 returns g c =
