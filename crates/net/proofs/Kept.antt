@@ -6,8 +6,9 @@ use Rattle.cycle_space.specs.Shapes.{Shape, EndsAreNodes}
 use Rattle.cycle_space.specs.Labels.{closes}
 use Rattle.cycle_space.specs.Moments.{drawn, shape, weights}
 use Rattle.cycle_space.proofs.Counting.{count_le}
-use Rattle.net.specs.Keeps.{nowhere, laid_out, no_pipes, row_at}
+use Rattle.net.specs.Keeps.{Joins, nowhere, laid_out, no_pipes, row_at}
 use Rattle.net.specs.Views.{view, rings}
+use Rattle.net.specs.Labelled.{HavePlaces}
 use Rattle.cycle_space.specs.declared.ends.Ends.{Ends}
 use Rattle.net.specs.declared.net.Net.{Net}
 use Rattle.net.proofs.Keeping.{laid_pipes}
@@ -57,6 +58,9 @@ module _ {M : Type 0} (n : Net M) where
   pub second_seen : (j : ℕ) → j < n.tables.pipes → (shape (view n)).second j ≡ (get_or n.tables.ends j nowhere).second
   second_seen j l = ap (λ xs. get_or xs j 0) (ends_seen (λ p. p.second) (λ e. e.second) (λ e w. refl) _ _ equal) ∙ at_place (λ e. e.second) j l
 
+  pub weights_many : length (weights (view n)) ≡ n.tables.pipes
+  weights_many = length-map (view n).pipes (λ p. p.weight) ∙ pipes_seen
+
   pub weights_seen : weights (view n) ≡ take n.tables.pipes n.column.now
   weights_seen = weighed _ _ equal
 
@@ -81,11 +85,31 @@ module _ {M : Type 0} (n : Net M) where
       get_or-map (λ r. r.words) (take n.tables.found n.tables.rows) i no_pipes empty (omega arith)
       ∙ ap (λ r. r.words) (get_or-take n.tables.found n.tables.rows i no_pipes l)
 
-  -- the ends of a pipe have places among the labels
-  pub ends_small : (j : ℕ) → j < n.tables.pipes → ((get_or n.tables.ends j nowhere).first < 65) × ((get_or n.tables.ends j nowhere).second < 65)
-  ends_small j l =
-      let few = n.keeps.few_nodes in
-      let e = n.keeps.joined j l in
-      let a = e.first_in.1 in
-      let b = e.second_in.1 in
-      (omega arith, omega arith)
+  -- the pipes laid
+  pub laid_long : (laid : List Ends) → laid ≡ take n.tables.pipes n.tables.ends → length laid ≡ n.tables.pipes
+  laid_long laid are = ap length are ∙ length-take-le n.tables.pipes n.tables.ends ends_for_all
+
+  -- one of them
+  module _ (laid : List Ends) (are : laid ≡ take n.tables.pipes n.tables.ends) (j : ℕ) (l : j < length laid) where
+    pub laid_in : j < n.tables.pipes
+    laid_in = omega (arith, laid_long laid are)
+
+    read : get_or n.tables.ends j nowhere ≡ get_or laid j nowhere
+    read = sym (ap (λ es. get_or es j nowhere) are ∙ get_or-take n.tables.pipes n.tables.ends j nowhere laid_in)
+
+    pub laid_joins : Joins n.tables.nodes (get_or laid j nowhere)
+    laid_joins = subst (Joins n.tables.nodes) read (n.keeps.joined j laid_in)
+
+    pub laid_first : (shape (view n)).first j ≡ (get_or laid j nowhere).first
+    laid_first = first_seen j laid_in ∙ ap (λ e. e.first) read
+
+    pub laid_second : (shape (view n)).second j ≡ (get_or laid j nowhere).second
+    laid_second = second_seen j laid_in ∙ ap (λ e. e.second) read
+
+    -- its ends have places among the labels
+    pub laid_have_places : HavePlaces (get_or laid j nowhere)
+    laid_have_places =
+        let few = n.keeps.few_nodes in
+        let a = laid_joins.first_in.1 in
+        let b = laid_joins.second_in.1 in
+        record { first_in = omega arith; second_in = omega arith }

@@ -4,6 +4,7 @@ use mathlib.Core.Path.{fun_ext}
 use borrow.Author.Tests.{both_ways}
 use Rattle.std.proofs.lemmas.List.{length-set, length-take-le, get_or-take, get_or-set_same, get_or-set_other, take_more_set}
 use Rattle.search.specs.Layouts.{Laid}
+use Rattle.cycle_space.specs.declared.ends.Ends.{Ends}
 use Rattle.cycle_space.specs.Rows.{Row, sum, odd}
 use Rattle.cycle_space.specs.Shapes.{Shape, Due}
 use Rattle.cycle_space.specs.Moments.{shape, weights}
@@ -14,7 +15,7 @@ use Rattle.cycle_space.specs.Lightest.{LightestOdd}
 use Rattle.cycle_space.proofs.Counting.{count_le}
 use Rattle.cycle_space.proofs.Due.{due_rank, due_unique}
 use Rattle.cycle_space.proofs.Supports.{due_ring}
-use Rattle.net.specs.Keeps.{Keeps, nowhere, no_pipes, laid_out, row_at, supports_of}
+use Rattle.net.specs.Keeps.{Keeps, no_pipes, laid_out, row_at, supports_of}
 use Rattle.net.specs.Views.{view, rings, support}
 use Rattle.net.specs.Calls.{NextDeclined, all_found, scratch_short, FoundNext}
 use Rattle.net.specs.Refusals.{number, NoneApplies, Smallest}
@@ -23,24 +24,21 @@ use Rattle.net.specs.declared.tables.StoredRow.{StoredRow}
 use Rattle.net.specs.declared.tables.Tables.{Tables}
 use Rattle.net.specs.declared.refusal.Refusal.{Refusal}
 use Rattle.net.specs.declared.refusal.Refusal.TheVariants.{Complete, ScratchTooShort}
-use Rattle.net.proofs.Kept.{ends_for_all, ends_are_nodes, rings_seen, view_shape, laid_few}
+use Rattle.net.proofs.Kept.{ends_for_all, ends_are_nodes, rings_seen, view_shape, laid_few, laid_long, laid_joins}
 use Rattle.net.proofs.Keeping.{supports_stored, ring_found}
 
 module _ {M : Type 0} (n : Net M) where
   -- what every net keeps is what the search wants
-  pub laid : Laid n.tables.nodes (take n.tables.pipes n.tables.ends) (length (take n.tables.pipes n.column.now))
-  laid =
-      let k = n.keeps in
-      let few = k.few_pipes in
-      let long : length (take n.tables.pipes n.tables.ends) ≡ n.tables.pipes = length-take-le n.tables.pipes n.tables.ends (ends_for_all n) in
-      let same : (j : ℕ) → j < n.tables.pipes → get_or n.tables.ends j nowhere ≡ get_or (take n.tables.pipes n.tables.ends) j nowhere =
-      λ j l. sym (get_or-take n.tables.pipes n.tables.ends j nowhere l) in
+  pub laid : (ends : List Ends) (weights : ℕ) → ends ≡ take n.tables.pipes n.tables.ends → weights ≡ n.tables.pipes → Laid n.tables.nodes ends weights
+  laid ends weights are many =
+      let long = laid_long n ends are in
+      let few = n.keeps.few_pipes in
       record {
-        few_nodes = k.few_nodes;
+        few_nodes = n.keeps.few_nodes;
         few_pipes = omega arith;
-        weighed = length-take-le n.tables.pipes n.column.now n.fits ∙ sym long;
-        first_in = λ j l. subst (λ e. (1 ≤ e.first) × (e.first ≤ n.tables.nodes)) (same j (omega arith)) (k.joined j (omega arith)).first_in;
-        second_in = λ j l. subst (λ e. (1 ≤ e.second) × (e.second ≤ n.tables.nodes)) (same j (omega arith)) (k.joined j (omega arith)).second_in;
+        weighed = omega arith;
+        first_in = λ j l. (laid_joins n ends are j l).first_in;
+        second_in = λ j l. (laid_joins n ends are j l).second_in;
       }
 
   -- When next is declined

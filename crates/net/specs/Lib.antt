@@ -6,3 +6,4 @@ pub mod Calls
 pub mod Histories
 pub mod Promise
 pub mod Labelled
+pub mod Places

@@ -2,11 +2,12 @@ ghost use Rattle.std.specs.Prelude.{◌≡◌, ℕ, ◌<◌, ◌==◌};
 ghost use Rattle.cycle_space.specs.Labels.{relabel, label};
 ghost use Rattle.cycle_space.specs.Moments.{shape};
 ghost use Rattle.net.specs.Views.{view};
-ghost use Rattle.net.specs.Labelled.{labelled, own_labels};
+ghost use Rattle.net.specs.Labelled.{HavePlaces, labelled, own_labels};
 
 use crate::net::Net;
 use cycle_space::Ends;
 use measures::Measure;
+use std::array;
 
 // A place for each node's number, and one for 0.
 const PLACES: usize = 65;
@@ -22,16 +23,14 @@ impl Labels {
     pub(crate) fn own() -> Labels
         ensures { (v : ℕ) → v < 65 → labelled result v ≡ v }
     {
-        let mut of = [0; PLACES];
-        for v in 0..PLACES {
-            of[v] = v;
+        Labels {
+            of: array::from_fn(|v| v),
         }
-        Labels { of }
     }
 
     // One pipe more: the nodes with the greater of its ends' labels get the smaller.
     pub(crate) fn lay(&mut self, ends: Ends)
-        requires { (ends.first < 65) × (ends.second < 65) }
+        requires { HavePlaces ends }
         ensures { (v : ℕ) → v < 65 → labelled self.new v ≡ relabel (labelled self.old ends.first) (labelled self.old ends.second) (labelled self.old v) }
     {
         let p = self.of[ends.first];
@@ -47,7 +46,7 @@ impl Labels {
 
     // Whether the ends have one label.
     pub(crate) fn joined(&self, ends: Ends) -> bool
-        requires { (ends.first < 65) × (ends.second < 65) }
+        requires { HavePlaces ends }
         ensures { result ≡ (labelled self.now ends.first == labelled self.now ends.second) }
     {
         self.of[ends.first] == self.of[ends.second]
@@ -58,13 +57,7 @@ impl Labels {
         requires { nodes < 65 }
         ensures { result ≡ own_labels self.now nodes }
     {
-        let mut parts = 0;
-        for v in 1..nodes + 1 {
-            if self.of[v] == v {
-                parts += 1;
-            }
-        }
-        parts
+        (1..nodes + 1).filter(|v| self.of[*v] == *v).count()
     }
 }
 
@@ -74,8 +67,8 @@ impl<'a, M: Measure> Net<'a, M> {
         ensures { (v : ℕ) → v < 65 → labelled result v ≡ label (shape (view self.now)) (shape (view self.now)).pipes v }
     {
         let mut labels = Labels::own();
-        for j in 0..self.tables.pipes {
-            labels.lay(self.tables.ends[j]);
+        for ends in self.laid() {
+            labels.lay(*ends);
         }
         labels
     }

@@ -19,11 +19,10 @@ impl<'a, M: Measure> Net<'a, M> {
         ensures drawn { plan result ≡ laid_out self.now.tables }
         ensures weighed { result.weights.now ≡ weights_of (view self.now) }
     {
-        let weights: &[M] = self.column;
         Layout {
             nodes: self.tables.nodes,
-            ends: &self.tables.ends[..self.tables.pipes],
-            weights: &weights[..self.tables.pipes],
+            ends: self.laid(),
+            weights: self.weights(),
         }
     }
 

@@ -1,4 +1,5 @@
 ghost use Rattle.std.specs.Prelude.{◌≡◌, Some};
+ghost use Rattle.cycle_space.specs.Rows.{empty};
 ghost use Rattle.net.specs.Refusals.{number, words};
 ghost use Rattle.net.specs.declared.refusal.Refusal.TheVariants.{ScratchTooShort as TooShort};
 
@@ -40,6 +41,17 @@ impl From<ScratchTooShort> for Refusal {
 pub struct NoRow {
     pub refusal: Refusal,
     pub row: [u64; 4],
+}
+
+impl From<Refusal> for NoRow {
+    ghost from_gives = { λ e r. r ≡ record { refusal = e; row = empty } };
+
+    fn from(refusal: Refusal) -> NoRow {
+        NoRow {
+            refusal,
+            row: [0; 4],
+        }
+    }
 }
 
 impl Refusal {

@@ -22,12 +22,9 @@ impl Supports {
         ensures long { length self.new.of ≡ 256 }
     {
         let own = self.of[found].words;
-        for i in found + 1..256 {
-            let later = self.of[i].words;
-            if parity(ring, later) {
-                self.of[i] = StoredRow {
-                    words: sum(later, own),
-                };
+        for later in &mut self.of[found + 1..] {
+            if parity(ring, later.words) {
+                later.words = sum(later.words, own);
             }
         }
     }
@@ -42,15 +39,14 @@ impl<'a, M: Measure> Net<'a, M> {
         let mut of = [no_pipes; 256];
         let mut labels = Labels::own();
         let mut closing = 0;
-        for j in 0..self.tables.pipes {
-            let ends = self.tables.ends[j];
-            if labels.joined(ends) {
+        for (place, ends) in self.laid().iter().enumerate() {
+            if labels.joined(*ends) {
                 of[closing] = StoredRow {
-                    words: single(j + 1),
+                    words: single(place + 1),
                 };
                 closing += 1;
             }
-            labels.lay(ends);
+            labels.lay(*ends);
         }
         Supports { of }
     }

@@ -1,5 +1,3 @@
-ghost use Rattle.std.specs.Prelude.{◌≡◌, ◌&&◌, nat_le};
-
 use cycle_space::Ends;
 
 // The most nodes and pipes that a net has.
@@ -22,27 +20,4 @@ pub struct Tables {
     pub(crate) ends: [Ends; 256],
     pub(crate) rows: [StoredRow; 256],
     pub(crate) supports: [StoredRow; 256],
-}
-
-impl Tables {
-    // Whether the node is there; nodes are numbered from 1.
-    pub(crate) fn has_node(&self, node: usize) -> bool
-        ensures { result ≡ (nat_le 1 node && nat_le node self.now.nodes) }
-    {
-        1 <= node && node <= self.nodes
-    }
-
-    // Whether the pipe is laid; pipes are numbered from 1.
-    pub(crate) fn has_pipe(&self, pipe: usize) -> bool
-        ensures { result ≡ (nat_le 1 pipe && nat_le pipe self.now.pipes) }
-    {
-        1 <= pipe && pipe <= self.pipes
-    }
-
-    // Whether the ring is found; rings are numbered from 1.
-    pub(crate) fn has_ring(&self, ring: usize) -> bool
-        ensures { result ≡ (nat_le 1 ring && nat_le ring self.now.found) }
-    {
-        1 <= ring && ring <= self.found
-    }
 }

@@ -55,7 +55,7 @@ impl<'a, M: Measure> Net<'a, M> {
         ensures replied { Lays self.old first second weight result self.new }
         ensures lent { self.new.column.ghost_name ≡ self.old.column.ghost_name }
     {
-        if !self.tables.has_node(first) || !self.tables.has_node(second) {
+        if !self.has_node(first) || !self.has_node(second) {
             return Err(Refusal::NoSuchNode);
         }
         if first == second {
@@ -91,10 +91,8 @@ impl<'a, M: Measure> Net<'a, M> {
         ensures replied { Reweighs self.old pipe weight result self.new }
         ensures lent { self.new.column.ghost_name ≡ self.old.column.ghost_name }
     {
-        if !self.tables.has_pipe(pipe) {
-            return Err(Refusal::NoSuchPipe);
-        }
-        self.column[pipe - 1] = weight;
+        let place = self.pipe_place(pipe)?;
+        self.column[place] = weight;
         self.tables.found = 0; // a ring may have become too heavy
         Ok(())
     }

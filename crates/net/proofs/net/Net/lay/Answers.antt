@@ -3,7 +3,7 @@ use Rattle.std.proofs.lemmas.List.{length-set}
 use Rattle.net.specs.Calls.{Room}
 use Rattle.net.proofs.Kept.{ends_for_all, pipes_seen}
 use Rattle.net.proofs.Keeping.{pipe_laid}
-use Rattle.net.proofs.Replies.{counted, pipes_full, lays}
+use Rattle.net.proofs.Replies.{pipes_full, lays}
 use Rattle.net.proofs.Views.{seen_laid}
 use Rattle.net.proofs.net.Net.lay.Goals as goal
 use Rattle.net.proofs.net.Net.lay.Goals.{then-place-ge-MOST_PIPES-via-then-place-ge-MOST_PIPES, then-place-ge-MOST_PIPES-via-else-place-ge-MOST_PIPES+then-place-self}
@@ -18,15 +18,15 @@ returns-then-place-ge-MOST_PIPES g c =
       | then-place-ge-MOST_PIPES-via-else-place-ge-MOST_PIPES+then-place-self w ↦ omega arith
     ] in
     record {
-      replied = (pipes_full n c.args.first c.args.second c.if-not-has_node.ensures c.if-not-has_node-2.ensures c.if-first-second.false full, refl);
+      replied = (pipes_full n c.args.first c.args.second (c.if-not-has_node.ensures.0 refl) (c.if-not-has_node-2.ensures.0 refl) c.if-first-second.false full, refl);
       lent = refl;
     }
 
 pub invariant_of-self : goal.invariant_of-self
 invariant_of-self g c =
     let n = c.args.self.now in
-    let a = counted n.tables.nodes c.args.first c.if-not-has_node.ensures in
-    let b = counted n.tables.nodes c.args.second c.if-not-has_node-2.ensures in
+    let a = c.if-not-has_node.ensures.0 refl in
+    let b = c.if-not-has_node-2.ensures.0 refl in
     record {
       fits = simp length-set (omega arith);
       keeps = pipe_laid n.tables n.keeps _
@@ -45,7 +45,7 @@ returns g c =
     let few : n.tables.pipes < length n.tables.ends = (let k = n.keeps.places.0 in omega arith) in
     record {
       replied = (
-        lays n c.args.first c.args.second c.if-not-has_node.ensures c.if-not-has_node-2.ensures c.if-first-second.false (omega arith, omega arith),
+        lays n c.args.first c.args.second (c.if-not-has_node.ensures.0 refl) (c.if-not-has_node-2.ensures.0 refl) c.if-first-second.false (omega arith, omega arith),
         record {
           next_number = omega arith;
           one_more = seen_laid n.tables.nodes n.tables.pipes n.tables.ends n.column.now (ends_for_all n) n.fits _ c.args.weight few c.if-place-self.false;
