@@ -61,7 +61,7 @@ impl Labels {
     }
 }
 
-impl<'a, M: Measure> Net<'a, M> {
+impl<M: Measure> Net<'_, M> {
     // The labels after all pipes.
     pub(crate) fn labels(&self) -> Labels
         ensures { (v : ℕ) → v < 65 → labelled result v ≡ label (shape (view self.now)) (shape (view self.now)).pipes v }

@@ -17,7 +17,7 @@ fn place(number: usize, count: usize) -> Option<usize>
     number.checked_sub(1).filter(|place| *place < count)
 }
 
-impl<'a, M: Measure> Net<'a, M> {
+impl<M: Measure> Net<'_, M> {
     // Whether the node is there.
     pub(crate) fn has_node(&self, node: usize) -> bool
         ensures { (result ≡ true) ↔ Node (shape (view self.now)) node }

@@ -9,7 +9,7 @@ use crate::refusal::Refusal;
 use cycle_space::Ends;
 use measures::Measure;
 
-impl<'a, M: Measure> Net<'a, M> {
+impl<M: Measure> Net<'_, M> {
     // How many nodes there are.
     pub fn nodes(&self) -> usize
         ensures { result ≡ (view self.now).nodes }

@@ -10,7 +10,7 @@ use crate::refusal::{NoRow, Refusal};
 use crate::weight::weight_of;
 use measures::Measure;
 
-impl<'a, M: Measure> Net<'a, M> {
+impl<M: Measure> Net<'_, M> {
     // The row of a ring.
     pub fn ring(&self, ring: usize) -> Result<[u64; 4], NoRow>
         ensures { TellsRow self.now ring (ring_row self.now ring) result }

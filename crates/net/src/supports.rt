@@ -4,7 +4,7 @@ ghost use Rattle.net.specs.Keeps.{laid_out, row_at, supports_of};
 
 use crate::labels::Labels;
 use crate::net::Net;
-use crate::tables::StoredRow;
+use crate::tables::{NO_PIPES, StoredRow};
 use cycle_space::{parity, single, sum};
 use measures::Measure;
 
@@ -30,20 +30,17 @@ impl Supports {
     }
 }
 
-impl<'a, M: Measure> Net<'a, M> {
+impl<M: Measure> Net<'_, M> {
     // Each closing pipe alone, in the order of the pipes.
     fn closing_pipes(&self) -> Supports
         ensures { (i : ℕ) → row_at result.of i ≡ alone (laid_out self.now.tables) i }
     {
-        let no_pipes = StoredRow { words: [0; 4] };
-        let mut of = [no_pipes; 256];
+        let mut of = [NO_PIPES; 256];
         let mut labels = Labels::own();
         let mut closing = 0;
         for (place, ends) in self.laid().iter().enumerate() {
             if labels.joined(*ends) {
-                of[closing] = StoredRow {
-                    words: single(place + 1),
-                };
+                of[closing].words = single(place + 1);
                 closing += 1;
             }
             labels.lay(*ends);

@@ -11,6 +11,14 @@ pub struct StoredRow {
     pub words: [u64; 4],
 }
 
+pub const NO_PIPES: StoredRow = StoredRow { words: [0; 4] };
+
+// What a place without a pipe holds.
+pub const NOWHERE: Ends = Ends {
+    first: 0,
+    second: 0,
+};
+
 // What a net has besides the weights of its pipes. Pipe j stands at the place j - 1, and so does ring j with its support.
 #[derive(Drop)]
 pub struct Tables {

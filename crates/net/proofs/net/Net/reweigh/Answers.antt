@@ -17,11 +17,11 @@ invariant_of-self g c =
 pub returns : goal.returns
 returns g c =
     let n = c.args.self.now in
-    let place : ℕ = c.in_ok-place.place in
-    let is : IsPlace c.args.pipe n.tables.pipes place = c.in_ok-place.ensures.1 in
+    let place : ℕ = c.in_ok-self.field-0 in
+    let is : IsPlace c.args.pipe n.tables.pipes place = c.in_ok-self.ensures.1 in
     record {
       replied = (
-        c.in_ok-place.ensures.0,
+        c.in_ok-self.ensures.0,
         record {
           other_weight = seen_reweighed n.tables.nodes n.tables.pipes n.tables.ends n.column.now (ends_for_all n) n.fits place c.args.weight
               ∙ ap (λ j. reweigh_pipe (view n) j c.args.weight) (sym is.next);
