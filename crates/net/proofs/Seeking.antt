@@ -1,9 +1,11 @@
 -- The net as the search takes it, and what next makes of what is found. Assumes nothing.
-use Rattle.std.proofs.Common.{◌≡◌, ℕ, ◌+◌, ◌-◌, ◌*◌, ◌<◌, ◌≤◌, Bool, true, false, eqb, ◌↔◌, List, [], ◌∷◌, ◌++◌, map, length, get_or, take, set, is_err, IsErrAnd, Ok, Err, Result, sym, refl, ap, ◌∙◌, subst, subst₂, arith, eq-eqb, eqb-true}
+use Rattle.std.proofs.Common.{◌≡◌, ℕ, ◌+◌, ◌-◌, ◌*◌, ◌<◌, ◌≤◌, Bool, true, false, eqb, ◌↔◌, List, [], ◌∷◌, ◌++◌, map, length, get_or, take, set, is_err, IsErrAnd, None, Some, Ok, Err, Result, sym, refl, ap, ◌∙◌, subst, subst₂, arith, eq-eqb, eqb-true}
 use mathlib.Core.Path.{fun_ext}
 use borrow.Author.Tests.{both_ways}
 use Rattle.std.proofs.lemmas.List.{length-set, length-take-le, get_or-take, get_or-set_same, get_or-set_other, take_more_set}
 use Rattle.search.specs.Layouts.{Laid}
+use Rattle.search.specs.Sought.{plan}
+use Rattle.search.specs.declared.layout.Layout.{Layout}
 use Rattle.cycle_space.specs.declared.ends.Ends.{Ends}
 use Rattle.cycle_space.specs.Rows.{Row, sum, odd}
 use Rattle.cycle_space.specs.Shapes.{Shape, Due}
@@ -26,6 +28,7 @@ use Rattle.net.specs.declared.refusal.Refusal.{Refusal}
 use Rattle.net.specs.declared.refusal.Refusal.TheVariants.{Complete, ScratchTooShort}
 use Rattle.net.proofs.Kept.{ends_for_all, ends_are_nodes, rings_seen, view_shape, laid_few, laid_long, laid_joins}
 use Rattle.net.proofs.Keeping.{supports_stored, ring_found}
+use Rattle.net.proofs.Turning.{blank, read_row}
 
 module _ {M : Type 0} (n : Net M) where
   -- what every net keeps is what the search wants
@@ -58,8 +61,11 @@ module _ {M : Type 0} (n : Net M) where
         least f (all_found q _) = let s : number f ≡ 6 = ap number q in omega arith
         least f (scratch_short q _) = let s : number f ≡ 7 = ap number q in omega arith
 
-  -- as long as a ring is due
-  module _ (more : Due (shape (view n)) (length (rings n)) → ⊥) where
+  -- as long as a ring is due, by the test for it
+  module _ {b : Bool} (told : (b ≡ true) ↔ Due (shape (view n)) (length (rings n))) (no : b ≡ false) where
+    more : Due (shape (view n)) (length (rings n)) → ⊥
+    more due = both_ways b no (told.1 due)
+
     -- fewer rings are found than there are closing pipes
     pub still_due : n.tables.found < rank (laid_out n.tables)
     still_due =
@@ -96,10 +102,6 @@ module _ {M : Type 0} (n : Net M) where
       is_accepted l f (all_found _ all) = more all
       is_accepted l f (scratch_short _ s) = omega arith
 
--- a test that is false, where it is true exactly when the fact holds
-pub not_so_when : {P : Type 0} (b : Bool) → (b ≡ true) ↔ P → b ≡ false → P → ⊥
-not_so_when b t e p = both_ways b e (t.1 p)
-
 -- What the search answers
 
 -- 1 for a refusal, and 0 else
@@ -112,14 +114,25 @@ pub short_reply : (r : Result ℕ Refusal) → is_err r ≡ true → IsErrAnd r 
 short_reply (Ok k) e b = absurd b
 short_reply (Err x) e b = ap Err b
 
--- a lightest set, for the same net and support
-pub lightest_as : {M : Type 0} {none : M} {join : M → M → M} {within : M → M → Bool} {N N' : Shape} {ws ws' : List M} {s s' c : Row} → N ≡ N' → ws ≡ ws' → s ≡ s'
-    → LightestOdd none join within N ws s c → LightestOdd none join within N' ws' s' c
-lightest_as {M} {none} {join} {within} {N} {N'} {ws} {ws'} {s} {s'} {c} p q r l =
-    subst (λ x. LightestOdd none join within N' ws' x c) r (subst₂ (λ x y. LightestOdd none join within x y s c) p q l)
+-- the supports that next works on are those of the net
+module _ {M : Type 0} (n : Net M) (rows : List StoredRow) (long : length rows ≡ 256) (are : (i : ℕ) → row_at rows i ≡ supports_of n.tables i) where
+  pub extended_as : {c : Row} {later : ℕ → Row} → Extended n.tables.found (row_at rows) c later → Extended n.tables.found (supports_of n.tables) c later
+  extended_as {c} {later} x = subst (λ S. Extended n.tables.found S c later) (fun_ext are) x
 
-pub extended_as : {k : ℕ} {S S' T : ℕ → Row} {c : Row} → ((i : ℕ) → S i ≡ S' i) → Extended k S c T → Extended k S' c T
-extended_as {k} {S} {S'} {T} {c} e x = subst (λ U. Extended k U c T) (fun_ext e) x
+  -- what the search finds with the first support without a ring
+  module _ (room : n.tables.found < 256) (l : Layout M) (drawn : plan l ≡ laid_out n.tables) where
+    same : (get_or rows n.tables.found blank).words ≡ supports_of n.tables n.tables.found
+    same = read_row rows n.tables.found (omega arith) ∙ are n.tables.found
+
+    pub nothing_found : ((x : Row) → Closed (plan l) x → odd x (get_or rows n.tables.found blank).words ≡ true → ⊥) → (x : Row) → Closed (laid_out n.tables) x → odd x (supports_of n.tables n.tables.found) ≡ true → ⊥
+    nothing_found f = subst₂ (λ N s. (x : Row) → Closed N x → odd x s ≡ true → ⊥) drawn same f
+
+    pub lightest_found : {none : M} {join : M → M → M} {within : M → M → Bool} {c : Row} → l.weights.now ≡ weights (view n)
+        → LightestOdd none join within (plan l) l.weights.now (get_or rows n.tables.found blank).words c
+        → LightestOdd none join within (laid_out n.tables) (weights (view n)) (supports_of n.tables n.tables.found) c
+    lightest_found {none} {join} {within} {c} weighed f =
+        subst (λ s. LightestOdd none join within (laid_out n.tables) (weights (view n)) s c) same
+        (subst₂ (λ N ws. LightestOdd none join within N ws (get_or rows n.tables.found blank).words c) drawn weighed f)
 
 -- What next leaves
 

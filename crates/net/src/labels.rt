@@ -13,7 +13,7 @@ use std::array;
 const PLACES: usize = 65;
 
 // A label for each node, at the place of its number: two nodes have one label where the pipes laid so far join them.
-#[derive(Clone, Copy)]
+#[derive(Drop)]
 pub(crate) struct Labels {
     of: [usize; PLACES],
 }
@@ -37,7 +37,7 @@ impl Labels {
         let q = self.of[ends.second];
         let low = p.min(q);
         let high = p.max(q);
-        for label in self.of.iter_mut() {
+        for label in &mut self.of {
             if *label == high {
                 *label = low;
             }

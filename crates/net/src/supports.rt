@@ -9,7 +9,7 @@ use cycle_space::{parity, single, sum};
 use measures::Measure;
 
 // The supports as next works on them: that of ring i at the place i - 1.
-#[derive(Clone, Copy)]
+#[derive(Drop)]
 pub(crate) struct Supports {
     pub(crate) of: [StoredRow; 256],
 }

@@ -1,4 +1,4 @@
-use Rattle.std.proofs.Common.{◌≡◌, ℕ, suc, ◌+◌, ◌<◌, ◌≤◌, eqb, get_or, sym, refl, ap, ◌∙◌, subst, ap₂, subst₂, arith}
+use Rattle.std.proofs.Common.{◌≡◌, ℕ, suc, ◌+◌, ◌<◌, eqb, get_or, sym, refl, ap, ◌∙◌, subst, ap₂, subst₂, arith}
 use Rattle.cycle_space.specs.declared.ends.Ends.{Ends}
 use Rattle.cycle_space.specs.Shapes.{Shape}
 use Rattle.cycle_space.specs.Labels.{label, closes}
