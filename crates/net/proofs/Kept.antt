@@ -85,31 +85,31 @@ module _ {M : Type 0} (n : Net M) where
       get_or-map (λ r. r.words) (take n.tables.found n.tables.rows) i no_pipes empty (omega arith)
       ∙ ap (λ r. r.words) (get_or-take n.tables.found n.tables.rows i no_pipes l)
 
-  -- the pipes laid
-  pub laid_long : (laid : List Ends) → laid ≡ take n.tables.pipes n.tables.ends → length laid ≡ n.tables.pipes
-  laid_long laid are = ap length are ∙ length-take-le n.tables.pipes n.tables.ends ends_for_all
+  -- the pipe at the place j has these ends
+  pub record LaidAt (j : ℕ) (e : Ends) : Type 0 where
+    pub first : (shape (view n)).first j ≡ e.first
+    pub second : (shape (view n)).second j ≡ e.second
+    pub joins : Joins n.tables.nodes e
+    pub have_places : HavePlaces e
 
-  -- one of them
-  module _ (laid : List Ends) (are : laid ≡ take n.tables.pipes n.tables.ends) (j : ℕ) (l : j < length laid) where
-    pub laid_in : j < n.tables.pipes
-    laid_in = omega (arith, laid_long laid are)
+  module _ (laid : List Ends) where
+    pub laid_long : laid ≡ take n.tables.pipes n.tables.ends → length laid ≡ n.tables.pipes
+    laid_long are = ap length are ∙ length-take-le n.tables.pipes n.tables.ends ends_for_all
 
-    read : get_or n.tables.ends j nowhere ≡ get_or laid j nowhere
-    read = sym (ap (λ es. get_or es j nowhere) are ∙ get_or-take n.tables.pipes n.tables.ends j nowhere laid_in)
+    pub laid_all : (j : ℕ) → length laid ≤ j → j ≤ length laid → laid ≡ take n.tables.pipes n.tables.ends → j ≡ (shape (view n)).pipes
+    laid_all j over within are = omega (arith, laid_long are, shape_pipes)
 
-    pub laid_joins : Joins n.tables.nodes (get_or laid j nowhere)
-    laid_joins = subst (Joins n.tables.nodes) read (n.keeps.joined j laid_in)
-
-    pub laid_first : (shape (view n)).first j ≡ (get_or laid j nowhere).first
-    laid_first = first_seen j laid_in ∙ ap (λ e. e.first) read
-
-    pub laid_second : (shape (view n)).second j ≡ (get_or laid j nowhere).second
-    laid_second = second_seen j laid_in ∙ ap (λ e. e.second) read
-
-    -- its ends have places among the labels
-    pub laid_have_places : HavePlaces (get_or laid j nowhere)
-    laid_have_places =
+    pub laid_at : (j : ℕ) → j < length laid → laid ≡ take n.tables.pipes n.tables.ends → LaidAt j (get_or laid j nowhere)
+    laid_at j l are =
+        let h : j < n.tables.pipes = omega (arith, laid_long are) in
+        let read : get_or n.tables.ends j nowhere ≡ get_or laid j nowhere = sym (ap (λ es. get_or es j nowhere) are ∙ get_or-take n.tables.pipes n.tables.ends j nowhere h) in
+        let joins : Joins n.tables.nodes (get_or laid j nowhere) = subst (Joins n.tables.nodes) read (n.keeps.joined j h) in
         let few = n.keeps.few_nodes in
-        let a = laid_joins.first_in.1 in
-        let b = laid_joins.second_in.1 in
-        record { first_in = omega arith; second_in = omega arith }
+        let a = joins.first_in.1 in
+        let b = joins.second_in.1 in
+        record {
+          first = first_seen j h ∙ ap (λ e. e.first) read;
+          second = second_seen j h ∙ ap (λ e. e.second) read;
+          joins = joins;
+          have_places = record { first_in = omega arith; second_in = omega arith };
+        }

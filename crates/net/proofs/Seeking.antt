@@ -26,7 +26,7 @@ use Rattle.net.specs.declared.tables.StoredRow.{StoredRow}
 use Rattle.net.specs.declared.tables.Tables.{Tables}
 use Rattle.net.specs.declared.refusal.Refusal.{Refusal}
 use Rattle.net.specs.declared.refusal.Refusal.TheVariants.{Complete, ScratchTooShort}
-use Rattle.net.proofs.Kept.{ends_for_all, ends_are_nodes, rings_seen, view_shape, laid_few, laid_long, laid_joins}
+use Rattle.net.proofs.Kept.{ends_for_all, ends_are_nodes, rings_seen, view_shape, laid_few, laid_long, laid_at}
 use Rattle.net.proofs.Keeping.{supports_stored, ring_found}
 use Rattle.net.proofs.Turning.{blank, read_row}
 
@@ -40,8 +40,8 @@ module _ {M : Type 0} (n : Net M) where
         few_nodes = n.keeps.few_nodes;
         few_pipes = omega arith;
         weighed = omega arith;
-        first_in = λ j l. (laid_joins n ends are j l).first_in;
-        second_in = λ j l. (laid_joins n ends are j l).second_in;
+        first_in = λ j l. (laid_at n ends j l are).joins.first_in;
+        second_in = λ j l. (laid_at n ends j l are).joins.second_in;
       }
 
   -- When next is declined
