@@ -19,15 +19,6 @@ the_only : {Applies : Refusal → Type 0} {e : Refusal} → Applies e → ((f : 
 the_only {Applies} {e} a h = record { applies = a; least = λ f b. subst (λ x. number e ≤ number x) (sym (h f b)) (let n = number e in omega arith) }
 
 module _ {M : Type 0} (n : Net M) where
-  pub nodes_full : (view n).nodes ≡ 64 → Smallest (AddDeclined n) NodesFull
-  nodes_full h = the_only (refl, h) (λ f b. b.0)
-
-  pub adds : (view n).nodes < 64 → NoneApplies (AddDeclined n)
-  adds l e d = let full = d.1 in omega arith
-
-  pub nothing_to_lift : (view n).pipes ≡ [] → Smallest (LiftDeclined n) NoSuchPipe
-  nothing_to_lift h = the_only (refl, h) (λ f b. b.0)
-
   pub lifts : (n.tables.pipes ≡ 0 → ⊥) → NoneApplies (LiftDeclined n)
   lifts h e d = h (sym (pipes_seen n) ∙ ap length d.1)
 

@@ -104,11 +104,6 @@ module _ {M : Type 0} (n : Net M) where
 
 -- What the search answers
 
--- 1 for a refusal, and 0 else
-abbrev pub told_no : Result ℕ Refusal → ℕ
-told_no (Ok k) = 0
-told_no (Err e) = 1
-
 -- too little scratch is told with its own number
 pub short_reply : (r : Result ℕ Refusal) → is_err r ≡ true → IsErrAnd r (λ e. e ≡ ScratchTooShort) → r ≡ Err ScratchTooShort
 short_reply (Ok k) e b = absurd b

@@ -4,7 +4,7 @@ use Rattle.net.specs.Calls.{FindsNext}
 use Rattle.net.specs.declared.tables.StoredRow.{StoredRow}
 use Rattle.net.specs.declared.refusal.Refusal.TheVariants.{ScratchTooShort}
 use Rattle.net.proofs.Turning.{blank}
-use Rattle.net.proofs.Seeking.{still_due, still_room, is_short, is_accepted, some_ring, told_no, short_reply, lightest_found, nothing_found, extended_as, ring_kept, found_next}
+use Rattle.net.proofs.Seeking.{still_due, still_room, is_short, is_accepted, some_ring, short_reply, lightest_found, nothing_found, extended_as, ring_kept, found_next}
 use Rattle.net.proofs.net.Net.next.Goals as goal
 
 pub bounds-supports-found : goal.bounds-supports-found
@@ -72,6 +72,6 @@ returns-clause-replied g c =
             (subst (Found m.zero m.join m.within c.layout.result (get_or rows n.tables.found blank).words) c.in-Some.is c.in_ok-ring.ensures.1))
             (extended_as n rows long c.supports-supports.ensures c.turn.ensures.turned) _ _,
       );
-      declined_scratch = λ e q. absurd (let z : ◌≡◌ {A = ℕ} 0 1 = ap told_no q in omega arith);
+      declined_scratch = λ e q. cc;
       as_long = c.in_ok-ring.ensures.2;
     }
