@@ -1,10 +1,10 @@
 -- The net as the search takes it, and what next makes of what is found. Assumes nothing.
-use Rattle.std.proofs.Common.{◌≡◌, ℕ, ◌+◌, ◌-◌, ◌*◌, ◌<◌, ◌≤◌, Bool, true, false, eqb, ◌↔◌, List, [], ◌∷◌, ◌++◌, map, length, get_or, take, set, is_err, IsErrAnd, None, Some, Ok, Err, Result, sym, refl, ap, ◌∙◌, subst, subst₂, arith, eq-eqb, eqb-true}
+use Rattle.std.proofs.Common.{◌≡◌, ℕ, ◌+◌, ◌-◌, ◌*◌, ◌<◌, ◌≤◌, Bool, true, false, eqb, ◌↔◌, List, [], ◌∷◌, ◌++◌, map, length, get_or, take, set, is_err, IsErrAnd, Option, None, Some, Ok, Err, Result, sym, refl, ap, ◌∙◌, subst, subst₂, arith, eq-eqb, eqb-true}
 use mathlib.Core.Path.{fun_ext}
 use borrow.Author.Tests.{both_ways}
 use Rattle.std.proofs.lemmas.List.{length-set, length-take-le, get_or-take, get_or-set_same, get_or-set_other, take_more_set}
 use Rattle.search.specs.Layouts.{Laid}
-use Rattle.search.specs.Sought.{plan}
+use Rattle.search.specs.Sought.{plan, Found}
 use Rattle.search.specs.declared.layout.Layout.{Layout}
 use Rattle.cycle_space.specs.declared.ends.Ends.{Ends}
 use Rattle.cycle_space.specs.Rows.{Row, sum, odd}
@@ -119,15 +119,15 @@ module _ {M : Type 0} (n : Net M) (rows : List StoredRow) (long : length rows �
     same : (get_or rows n.tables.found blank).words ≡ supports_of n.tables n.tables.found
     same = read_row rows n.tables.found (omega arith) ∙ are n.tables.found
 
-    pub nothing_found : ((x : Row) → Closed (plan l) x → odd x (get_or rows n.tables.found blank).words ≡ true → ⊥) → (x : Row) → Closed (laid_out n.tables) x → odd x (supports_of n.tables n.tables.found) ≡ true → ⊥
-    nothing_found f = subst₂ (λ N s. (x : Row) → Closed N x → odd x s ≡ true → ⊥) drawn same f
+    module _ (none : M) (join : M → M → M) (within : M → M → Bool) {o : Option Row} (found : Found none join within l (get_or rows n.tables.found blank).words o) where
+      pub nothing_found : o ≡ None → (x : Row) → Closed (laid_out n.tables) x → odd x (supports_of n.tables n.tables.found) ≡ true → ⊥
+      nothing_found e = subst₂ (λ N s. (x : Row) → Closed N x → odd x s ≡ true → ⊥) drawn same (subst (Found none join within l (get_or rows n.tables.found blank).words) e found)
 
-    pub lightest_found : {none : M} {join : M → M → M} {within : M → M → Bool} {c : Row} → l.weights.now ≡ weights (view n)
-        → LightestOdd none join within (plan l) l.weights.now (get_or rows n.tables.found blank).words c
-        → LightestOdd none join within (laid_out n.tables) (weights (view n)) (supports_of n.tables n.tables.found) c
-    lightest_found {none} {join} {within} {c} weighed f =
-        subst (λ s. LightestOdd none join within (laid_out n.tables) (weights (view n)) s c) same
-        (subst₂ (λ N ws. LightestOdd none join within N ws (get_or rows n.tables.found blank).words c) drawn weighed f)
+      pub lightest_found : {c : Row} → o ≡ Some c → l.weights.now ≡ weights (view n) → LightestOdd none join within (laid_out n.tables) (weights (view n)) (supports_of n.tables n.tables.found) c
+      lightest_found {c} e weighed =
+          subst (λ s. LightestOdd none join within (laid_out n.tables) (weights (view n)) s c) same
+          (subst₂ (λ N ws. LightestOdd none join within N ws (get_or rows n.tables.found blank).words c) drawn weighed
+          (subst (Found none join within l (get_or rows n.tables.found blank).words) e found))
 
 -- What next leaves
 

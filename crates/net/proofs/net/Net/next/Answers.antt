@@ -1,9 +1,7 @@
 use Rattle.std.proofs.Common.{◌≡◌, ℕ, ◌<◌, List, length, get_or, Err, sym, refl, ap, subst, arith, rules}
-use Rattle.search.specs.Sought.{Found}
 use Rattle.net.specs.Calls.{FindsNext}
 use Rattle.net.specs.declared.tables.StoredRow.{StoredRow}
 use Rattle.net.specs.declared.refusal.Refusal.TheVariants.{ScratchTooShort}
-use Rattle.net.proofs.Turning.{blank}
 use Rattle.net.proofs.Seeking.{still_due, still_room, is_short, is_accepted, some_ring, short_reply, lightest_found, nothing_found, extended_as, ring_kept, found_next}
 use Rattle.net.proofs.net.Net.next.Goals as goal
 
@@ -33,8 +31,7 @@ returns-in_default-clause-replied g c =
     let long : length rows ≡ 256 = search rules in
     let room = still_room n c.is_complete.ensures c.if-is_complete.false in
     absurd (some_ring n c.is_complete.ensures c.if-is_complete.false
-    (nothing_found n rows long c.supports-supports.ensures room c.layout.result c.layout.ensures.drawn
-    (subst (Found m.zero m.join m.within c.layout.result (get_or rows n.tables.found blank).words) c.in_default.is c.in_ok-ring.ensures.1)))
+    (nothing_found n rows long c.supports-supports.ensures room c.layout.result c.layout.ensures.drawn m.zero m.join m.within c.in_ok-ring.ensures.1 c.in_default.is))
 
 pub turn-requires : goal.turn-requires
 turn-requires g c = still_room c.args.self.now c.is_complete.ensures c.if-is_complete.false
@@ -50,8 +47,7 @@ invariant_of-self-clause-keeps g c =
     let long : length rows ≡ 256 = search rules in
     let room = still_room n c.is_complete.ensures c.if-is_complete.false in
     ring_kept m.zero m.join m.within n c.in-Some.ring c.turn.new.self.of room
-    (lightest_found n rows long c.supports-supports.ensures room c.layout.result c.layout.ensures.drawn c.layout.ensures.weighed
-    (subst (Found m.zero m.join m.within c.layout.result (get_or rows n.tables.found blank).words) c.in-Some.is c.in_ok-ring.ensures.1))
+    (lightest_found n rows long c.supports-supports.ensures room c.layout.result c.layout.ensures.drawn m.zero m.join m.within c.in_ok-ring.ensures.1 c.in-Some.is c.layout.ensures.weighed)
     (extended_as n rows long c.supports-supports.ensures c.turn.ensures.turned)
     (still_due n c.is_complete.ensures c.if-is_complete.false) c.turn.ensures.long
 
@@ -68,8 +64,7 @@ returns-clause-replied g c =
       replied = (
         is_accepted n c.is_complete.ensures c.if-is_complete.false c.args.scratch.now (omega arith),
         found_next m.zero m.join m.within n c.in-Some.ring c.turn.new.self.of room
-            (lightest_found n rows long c.supports-supports.ensures room c.layout.result c.layout.ensures.drawn c.layout.ensures.weighed
-            (subst (Found m.zero m.join m.within c.layout.result (get_or rows n.tables.found blank).words) c.in-Some.is c.in_ok-ring.ensures.1))
+            (lightest_found n rows long c.supports-supports.ensures room c.layout.result c.layout.ensures.drawn m.zero m.join m.within c.in_ok-ring.ensures.1 c.in-Some.is c.layout.ensures.weighed)
             (extended_as n rows long c.supports-supports.ensures c.turn.ensures.turned) _ _,
       );
       declined_scratch = λ e q. cc;
