@@ -1,8 +1,9 @@
 -- What is seen of a net, by what every net keeps. Assumes nothing.
-use Rattle.std.proofs.Common.{◌≡◌, ℕ, ◌<◌, ◌≤◌, List, map, length, get_or, take, sym, refl, ap, ◌∙◌, subst, ap₂, arith}
+use Rattle.std.proofs.Common.{◌≡◌, ℕ, ◌+◌, ◌-◌, ◌<◌, ◌≤◌, List, map, length, get_or, take, sym, refl, ap, ◌∙◌, subst, ap₂, arith}
 use Rattle.std.proofs.lemmas.List.{length-map, length-take-le, get_or-map, get_or-take}
 use Rattle.cycle_space.specs.Rows.{empty}
-use Rattle.cycle_space.specs.Shapes.{Shape, EndsAreNodes}
+use Rattle.cycle_space.specs.Shapes.{Shape, EndsAreNodes, Parts, Due}
+use Rattle.cycle_space.proofs.Due.{parts_few, parts_enough}
 use Rattle.cycle_space.specs.Labels.{closes}
 use Rattle.cycle_space.specs.Moments.{drawn, shape, weights}
 use Rattle.cycle_space.proofs.Counting.{count_le}
@@ -113,3 +114,20 @@ module _ {M : Type 0} (n : Net M) where
           joins = joins;
           have_places = record { first_in = omega arith; second_in = omega arith };
         }
+
+  -- what the number of rings that are due is reckoned from
+  pub record Reckoned (pipes parts nodes : ℕ) : Type 0 where
+    pub few : pipes + parts ≤ 320
+    pub enough : nodes ≤ pipes + parts
+    pub due : Due (shape (view n)) (pipes + parts - nodes)
+
+  pub reckoned : (pipes parts nodes : ℕ) → pipes ≡ length (view n).pipes → Parts (shape (view n)) parts → nodes ≡ n.tables.nodes → Reckoned pipes parts nodes
+  reckoned pipes parts nodes ps counted ns =
+      let N : Shape = shape (view n) in
+      let few = n.keeps.few_nodes in
+      let most = n.keeps.few_pipes in
+      let seen = pipes_seen in
+      let same = shape_pipes in
+      let over = parts_few N ends_are_nodes parts counted in
+      let enough = parts_enough N ends_are_nodes parts counted in
+      record { few = omega arith; enough = omega arith; due = (parts, counted, omega arith) }

@@ -1,6 +1,5 @@
 -- How the labels that the program keeps follow those of the shape. Assumes nothing.
-use Rattle.std.proofs.Common.{◌≡◌, ℕ, zero, suc, ◌+◌, ◌<◌, cond, eqb, count_by, map, refl, ap, ◌∙◌, ap₂, sym, arith, eq-eqb, ne_eqb}
-use Rattle.std.specs.List.{range_with_len}
+use Rattle.std.proofs.Common.{◌≡◌, ℕ, zero, suc, ◌+◌, ◌<◌, cond, eqb, refl, ap, ◌∙◌, ap₂, sym, arith, eq-eqb, ne_eqb}
 use mathlib.Core.List.{map-id}
 use Rattle.std.proofs.lemmas.List.FromFn.{sum_by-map-range_with_len_more}
 use Rattle.cycle_space.specs.Shapes.{Shape}

@@ -1,18 +1,14 @@
 -- Which refusals apply to a call, by the tests that the program makes, and what is read where none does. Assumes nothing.
-use Rattle.std.proofs.Common.{◌≡◌, ℕ, ◌-◌, ◌<◌, ◌≤◌, true, false, ◌&&◌, leb, [], length, get_or, sym, refl, ap, ◌∙◌, subst, arith, leb-true}
-use borrow.Author.Tests.{both_ways}
-use Rattle.std.proofs.lemmas.Bool.{and_parts, and_from, le-leb}
+use Rattle.std.proofs.Common.{◌≡◌, ℕ, ◌≤◌, length, sym, refl, ap, ◌∙◌, subst, arith}
 use Rattle.cycle_space.specs.Shapes.{Node}
 use Rattle.cycle_space.specs.Moments.{shape}
 use Rattle.net.specs.Refusals.{number, NoneApplies, Smallest}
-use Rattle.net.specs.Views.{view, support}
-use Rattle.net.specs.Calls.{AddDeclined, LayDeclined, end_is_no_node, ends_are_one, no_room, Room, LiftDeclined, PipeDeclined, RingDeclined, ring_row}
+use Rattle.net.specs.Views.{view}
+use Rattle.net.specs.Calls.{LayDeclined, end_is_no_node, ends_are_one, no_room, Room, LiftDeclined}
 use Rattle.net.specs.declared.net.Net.{Net}
 use Rattle.net.specs.declared.refusal.Refusal.{Refusal}
-use Rattle.net.specs.declared.refusal.Refusal.TheVariants.{NodesFull, PipesFull, NoSuchPipe, NoSuchRing}
-use Rattle.net.proofs.Kept.{pipes_seen, rings_seen, rings_few, ring_seen}
-use Rattle.net.proofs.Keeping.{supports_stored}
-use Rattle.net.proofs.Turning.{blank, read_row}
+use Rattle.net.specs.declared.refusal.Refusal.TheVariants.{PipesFull}
+use Rattle.net.proofs.Kept.{pipes_seen}
 
 -- where no other refusal applies, this one is the smallest
 the_only : {Applies : Refusal → Type 0} {e : Refusal} → Applies e → ((f : Refusal) → Applies f → f ≡ e) → Smallest Applies e

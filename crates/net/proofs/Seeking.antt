@@ -2,7 +2,7 @@
 use Rattle.std.proofs.Common.{◌≡◌, ℕ, ◌+◌, ◌-◌, ◌*◌, ◌<◌, ◌≤◌, Bool, true, false, eqb, ◌↔◌, List, [], ◌∷◌, ◌++◌, map, length, get_or, take, set, is_err, IsErrAnd, Option, None, Some, Ok, Err, Result, sym, refl, ap, ◌∙◌, subst, subst₂, arith, eq-eqb, eqb-true}
 use mathlib.Core.Path.{fun_ext}
 use borrow.Author.Tests.{both_ways}
-use Rattle.std.proofs.lemmas.List.{length-set, length-take-le, get_or-take, get_or-set_same, get_or-set_other, take_more_set}
+use Rattle.std.proofs.lemmas.List.{length-set, get_or-set_same, get_or-set_other, take_more_set}
 use Rattle.search.specs.Layouts.{Laid}
 use Rattle.search.specs.Sought.{plan, Found}
 use Rattle.search.specs.declared.layout.Layout.{Layout}
@@ -26,7 +26,7 @@ use Rattle.net.specs.declared.tables.StoredRow.{StoredRow}
 use Rattle.net.specs.declared.tables.Tables.{Tables}
 use Rattle.net.specs.declared.refusal.Refusal.{Refusal}
 use Rattle.net.specs.declared.refusal.Refusal.TheVariants.{Complete, ScratchTooShort}
-use Rattle.net.proofs.Kept.{ends_for_all, ends_are_nodes, rings_seen, view_shape, laid_few, laid_long, laid_at}
+use Rattle.net.proofs.Kept.{ends_are_nodes, rings_seen, view_shape, laid_few, laid_long, laid_at}
 use Rattle.net.proofs.Keeping.{supports_stored, ring_found}
 use Rattle.net.proofs.Turning.{blank, read_row}
 

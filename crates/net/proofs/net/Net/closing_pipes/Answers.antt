@@ -1,10 +1,8 @@
-use Rattle.std.proofs.Common.{◌≡◌, ℕ, suc, ◌+◌, ◌<◌, eqb, get_or, sym, refl, ap, ◌∙◌, subst, ap₂, subst₂, arith}
-use Rattle.cycle_space.specs.declared.ends.Ends.{Ends}
+use Rattle.std.proofs.Common.{◌≡◌, ℕ, suc, ◌+◌, ◌<◌, eqb, sym, refl, ap, ◌∙◌, subst, ap₂, subst₂, arith}
 use Rattle.cycle_space.specs.Shapes.{Shape}
 use Rattle.cycle_space.specs.Labels.{label, closes}
 use Rattle.cycle_space.specs.Moments.{shape}
 use Rattle.cycle_space.specs.Supports.{alone}
-use Rattle.net.specs.Keeps.{nowhere}
 use Rattle.net.specs.Views.{view}
 use Rattle.net.specs.Labelled.{labelled}
 use Rattle.net.proofs.Kept.{laid_long, laid_all, laid_at, shape_pipes, view_shape}

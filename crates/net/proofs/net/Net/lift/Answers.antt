@@ -1,4 +1,4 @@
-use Rattle.std.proofs.Common.{sym, refl, arith, rules}
+use Rattle.std.proofs.Common.{sym, refl, arith}
 use Rattle.net.proofs.Kept.{ends_for_all, pipes_seen}
 use Rattle.net.proofs.Keeping.{no_more_pipes}
 use Rattle.net.proofs.Replies.{lifts}

@@ -1,4 +1,4 @@
-use Rattle.std.proofs.Common.{◌≡◌, ℕ, ◌<◌, List, length, get_or, Err, sym, refl, ap, subst, arith, rules}
+use Rattle.std.proofs.Common.{◌≡◌, List, length, Err, sym, refl, ap, subst, arith, rules}
 use Rattle.net.specs.Calls.{FindsNext}
 use Rattle.net.specs.declared.tables.StoredRow.{StoredRow}
 use Rattle.net.specs.declared.refusal.Refusal.TheVariants.{ScratchTooShort}

@@ -1,4 +1,4 @@
-use Rattle.std.proofs.Common.{◌≡◌, ℕ, sym, ap, ◌∙◌, subst, arith}
+use Rattle.std.proofs.Common.{sym, ap, ◌∙◌, subst, arith}
 use Rattle.cycle_space.specs.Shapes.{Shape, Parts}
 use Rattle.cycle_space.specs.Moments.{shape}
 use Rattle.cycle_space.proofs.Parts.{parts_by_labels}
