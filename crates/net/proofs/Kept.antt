@@ -4,9 +4,7 @@ use Rattle.std.proofs.lemmas.List.{length-map, length-take-le, get_or-map, get_o
 use Rattle.cycle_space.specs.Rows.{empty}
 use Rattle.cycle_space.specs.Shapes.{Shape, EndsAreNodes, Parts, Due}
 use Rattle.cycle_space.proofs.Due.{parts_few, parts_enough}
-use Rattle.cycle_space.specs.Labels.{closes}
 use Rattle.cycle_space.specs.Moments.{drawn, shape, weights}
-use Rattle.cycle_space.proofs.Counting.{count_le}
 use Rattle.net.specs.Keeps.{Joins, nowhere, laid_out, no_pipes, row_at}
 use Rattle.net.specs.Views.{view, rings}
 use Rattle.net.specs.Labelled.{HavePlaces}
@@ -25,20 +23,10 @@ module _ {M : Type 0} (n : Net M) where
   pub laid_few : (laid_out n.tables).pipes ≡ n.tables.pipes
   laid_few = laid_pipes n.tables ends_for_all
 
-  pub rings_few : n.tables.found ≤ 256
-  rings_few =
-      let N : Shape = laid_out n.tables in
-      let over = n.keeps.sound.not_over in
-      let few = n.keeps.few_pipes in
-      let same = laid_few in
-      let most = count_le N.pipes (closes N) in
-      omega arith
-
   pub rings_seen : length (rings n) ≡ n.tables.found
   rings_seen =
-      let k = n.keeps in
-      let p = k.places.1 in
-      let q = rings_few in
+      let p = n.keeps.places.1 in
+      let few = n.keeps.few_rings in
       length-map (take n.tables.found n.tables.rows) (λ r. r.words) ∙ length-take-le n.tables.found n.tables.rows (omega arith)
 
   pub shape_pipes : (shape (view n)).pipes ≡ n.tables.pipes
@@ -80,7 +68,7 @@ module _ {M : Type 0} (n : Net M) where
   -- a ring that is seen stands in the table
   pub ring_seen : (i : ℕ) → i < n.tables.found → get_or (rings n) i empty ≡ row_at n.tables.rows i
   ring_seen i l =
-      let few = rings_few in
+      let few = n.keeps.few_rings in
       let p = n.keeps.places.1 in
       let m = length-take-le n.tables.found n.tables.rows (omega arith) in
       get_or-map (λ r. r.words) (take n.tables.found n.tables.rows) i no_pipes empty (omega arith)

@@ -1,4 +1,4 @@
--- Which refusals apply to a call, by the tests that the program makes, and what is read where none does. Assumes nothing.
+-- Which refusals apply to a call, by the tests that the program makes. Assumes nothing.
 use Rattle.std.proofs.Common.{◌≡◌, ℕ, ◌≤◌, length, sym, refl, ap, ◌∙◌, subst, arith}
 use Rattle.cycle_space.specs.Shapes.{Node}
 use Rattle.cycle_space.specs.Moments.{shape}

@@ -1,4 +1,4 @@
-// Nodes, pipes and rings are numbered from 1, and stand in their tables from the place 0 on.
+// Numbers and places: nodes, pipes and rings are numbered from 1, and what is numbered j stands at the place j - 1 of its table.
 ghost use Rattle.std.specs.Prelude.{◌≡◌, true, ◌↔◌};
 ghost use Rattle.cycle_space.specs.Shapes.{Node};
 ghost use Rattle.cycle_space.specs.Moments.{shape};

@@ -11,6 +11,7 @@ pub struct StoredRow {
     pub words: [u64; 4],
 }
 
+// A row without pipes.
 pub const NO_PIPES: StoredRow = StoredRow { words: [0; 4] };
 
 // What a place without a pipe holds.
