@@ -7,7 +7,7 @@ use Rattle.cycle_space.specs.Rows.{Row, empty, row_of}
 use Rattle.cycle_space.specs.Shapes.{Shape}
 use Rattle.cycle_space.specs.Labels.{label, closes}
 use Rattle.cycle_space.specs.Supports.{rank, before, alone}
-use Rattle.cycle_space.proofs.Counting.{count_le, count_up}
+use Rattle.cycle_space.proofs.Counting.{count_up}
 use Rattle.cycle_space.proofs.Keeping.{alone_single, alone_past}
 use Rattle.net.specs.Keeps.{no_pipes, row_at}
 use Rattle.net.specs.Labelled.{labelled}
@@ -18,6 +18,7 @@ use Rattle.net.specs.declared.tables.StoredRow.{StoredRow}
 pub record Begun (N : Shape) (labels : Labels) (closing : ℕ) (rows : List StoredRow) (j : ℕ) : Type 0 where
   pub told : (v : ℕ) → v < 65 → labelled labels v ≡ label N j v
   pub number : closing ≡ before N j
+  pub few : closing ≤ j
   pub long : length rows ≡ 256
   pub done : (i : ℕ) → i < before N j → row_at rows i ≡ alone N i
   pub left : (i : ℕ) → before N j ≤ i → row_at rows i ≡ empty
@@ -32,6 +33,7 @@ unfolding fold
 begun_none N labels rows e told = record {
   told = told;
   number = refl;
+  few = omega arith;
   long = ap length e ∙ length-replicate 256 no_pipes;
   done = λ i l. absurd (omega arith);
   left = λ i l. ap (λ xs. row_at xs i) e ∙ elim (dec_lt i 256) [
@@ -39,10 +41,6 @@ begun_none N labels rows e told = record {
     | no h ↦ ap (λ r. r.words) (get_or_past (replicate 256 no_pipes) i no_pipes (let m = length-replicate 256 no_pipes in omega arith))
   ];
 }
-
--- there are no more of them than pipes
-pub begun_few : (N : Shape) (labels : Labels) (closing : ℕ) (rows : List StoredRow) (j : ℕ) → Begun N labels closing rows j → closing ≤ j
-begun_few N labels closing rows j b = let is = b.number in let most = count_le j (closes N) in omega arith
 
 module _ (N : Shape) (few : N.pipes ≤ 256) (j : ℕ) (lj : j < N.pipes) (labels labels' : Labels) (closing : ℕ) (rows : List StoredRow) (b : Begun N labels closing rows j)
     (told' : (v : ℕ) → v < 65 → labelled labels' v ≡ label N (j + 1) v) where
@@ -59,6 +57,7 @@ module _ (N : Shape) (few : N.pipes ≤ 256) (j : ℕ) (lj : j < N.pipes) (label
       record {
         told = told';
         number = omega arith;
+        few = let most = b.few in omega arith;
         long = length-set rows closing (record { words = row }) ∙ b.long;
         done = λ i l. elim (ℕ_discrete i closing) [
           | yes q ↦ subst (λ k. row_at (set rows closing (record { words = row })) k ≡ alone N k) (sym q)
@@ -76,6 +75,7 @@ module _ (N : Shape) (few : N.pipes ≤ 256) (j : ℕ) (lj : j < N.pipes) (label
       record {
         told = told';
         number = omega arith;
+        few = let most = b.few in omega arith;
         long = b.long;
         done = λ i l. b.done i (omega arith);
         left = λ i l. b.left i (omega arith);

@@ -1,5 +1,7 @@
 -- How the labels that the program keeps follow those of the shape. Assumes nothing.
-use Rattle.std.proofs.Common.{◌≡◌, ℕ, zero, suc, ◌+◌, ◌-◌, ◌<◌, ◌≤◌, Bool, true, false, cond, eqb, sym, refl, ap, ◌∙◌, ap₂, arith, eq-eqb, ne_eqb}
+use Rattle.std.proofs.Common.{◌≡◌, ℕ, zero, suc, ◌+◌, ◌<◌, cond, eqb, refl, ap, ◌∙◌, ap₂, sym, arith, eq-eqb, ne_eqb}
+use mathlib.Core.List.{map-id}
+use Rattle.std.proofs.lemmas.List.FromFn.{sum_by-map-range_with_len_more}
 use Rattle.cycle_space.specs.Shapes.{Shape}
 use Rattle.cycle_space.specs.Labels.{label, relabel}
 use Rattle.cycle_space.specs.Sums.{fold, count}
@@ -29,34 +31,10 @@ label_next N j l l' a b fa fb la lb old new v h =
 -- the nodes that are their own label, counted
 pub own_counted : (N : Shape) (k : ℕ) (l : Labels) → ((v : ℕ) → v < 65 → labelled l v ≡ label N k v) → (n : ℕ) → n < 65
     → own_labels l n ≡ count n (λ v. eqb (label N k (suc v)) (suc v))
-unfolding own_labels fold
+unfolding fold
 own_counted N k l e zero h = refl
-own_counted N k l e (suc n) h = ap₂ (λ x r. cond (eqb x (suc n)) 1 0 + r) (e (suc n) h) (own_counted N k l e n (omega arith))
-
--- one node more, which is its own label or is not
-own_next : (l : Labels) (v : ℕ) → 1 ≤ v → own_labels l (v + 1 - 1) ≡ cond (eqb (labelled l v) v) 1 0 + own_labels l (v - 1)
-unfolding own_labels
-own_next l zero h = absurd (omega arith)
-own_next l (suc n) h =
-    let up : suc n + 1 - 1 ≡ suc n = omega arith in
-    let down : suc n - 1 ≡ n = omega arith in
-    ap (own_labels l) up ∙ ap (λ k. cond (eqb (labelled l (suc n)) (suc n)) 1 0 + own_labels l k) (sym down)
-
-pub own_more : (l : Labels) (v : ℕ) → 1 ≤ v → labelled l v ≡ v → own_labels l (v + 1 - 1) ≡ own_labels l (v - 1) + 1
-own_more l v h e = let c : ◌≡◌ {A = ℕ} (cond (eqb (labelled l v) v) 1 0) 1 = ap (λ b. cond b 1 0) (eq-eqb (labelled l v) v e) in let n = own_next l v h in omega arith
-
-pub own_same : (l : Labels) (v : ℕ) → 1 ≤ v → (labelled l v ≡ v → ⊥) → own_labels l (v + 1 - 1) ≡ own_labels l (v - 1)
-own_same l v h e = let c : ◌≡◌ {A = ℕ} (cond (eqb (labelled l v) v) 1 0) 0 = ap (λ b. cond b 1 0) (ne_eqb (labelled l v) v e) in let n = own_next l v h in omega arith
-
-pub own_none : (l : Labels) → own_labels l 0 ≡ 0
-unfolding own_labels
-own_none l = refl
-
-pub own_few : (l : Labels) (n : ℕ) → own_labels l n ≤ n
-unfolding own_labels
-own_few l zero = omega arith
-own_few l (suc n) = go (eqb (labelled l (suc n)) (suc n)) (own_few l n)
-  where
-    go : (b : Bool) → own_labels l n ≤ n → cond b 1 0 + own_labels l n ≤ suc n
-    go true h = omega arith
-    go false h = omega arith
+own_counted N k l e (suc n) h =
+    let more = simp map-id at (sum_by-map-range_with_len_more (λ v. cond (eqb (labelled l v) v) 1 0) (λ v. v) 1 n (suc n) (omega arith)) in
+    let below : own_labels l n ≡ count n (λ v. eqb (label N k (suc v)) (suc v)) = own_counted N k l e n (omega arith) in
+    ap (own_labels l) (let q : suc n ≡ n + 1 = omega arith in q) ∙ more
+    ∙ ap₂ (λ (r x : ℕ). r + cond (eqb x (suc n)) 1 0) below (e (suc n) h) ∙ omega arith

@@ -1,5 +1,4 @@
 -- The lemmas, each file above those that use it. Assumes nothing.
-pub mod Sweeps
 pub mod Keeping
 pub mod Views
 pub mod Kept

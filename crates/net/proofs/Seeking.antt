@@ -1,8 +1,10 @@
 -- The net as the search takes it, and what next makes of what is found. Assumes nothing.
-use Rattle.std.proofs.Common.{◌≡◌, ℕ, ◌+◌, ◌-◌, ◌*◌, ◌<◌, ◌≤◌, Bool, true, false, eqb, ◌↔◌, List, [], ◌∷◌, ◌++◌, map, length, take, set, is_err, IsErrAnd, Ok, Err, Result, sym, refl, ap, ◌∙◌, subst, subst₂, arith, eq-eqb, eqb-true}
+use Rattle.std.proofs.Common.{◌≡◌, ℕ, ◌+◌, ◌-◌, ◌*◌, ◌<◌, ◌≤◌, Bool, true, false, eqb, ◌↔◌, List, [], ◌∷◌, ◌++◌, map, length, get_or, take, set, is_err, IsErrAnd, Option, None, Some, Ok, Err, Result, sym, refl, ap, ◌∙◌, subst, subst₂, arith, eq-eqb, eqb-true}
 use mathlib.Core.Path.{fun_ext}
 use borrow.Author.Tests.{both_ways}
 use Rattle.std.proofs.lemmas.List.{length-set, get_or-set_same, get_or-set_other, take_more_set}
+use Rattle.search.specs.Sought.{plan, Found}
+use Rattle.search.specs.declared.layout.Layout.{Layout}
 use Rattle.cycle_space.specs.Rows.{Row, sum, odd}
 use Rattle.cycle_space.specs.Shapes.{Shape, Due}
 use Rattle.cycle_space.specs.Moments.{shape, weights}
@@ -22,8 +24,9 @@ use Rattle.net.specs.declared.tables.StoredRow.{StoredRow}
 use Rattle.net.specs.declared.tables.Tables.{Tables}
 use Rattle.net.specs.declared.refusal.Refusal.{Refusal}
 use Rattle.net.specs.declared.refusal.Refusal.TheVariants.{Complete, ScratchTooShort}
-use Rattle.net.proofs.Kept.{kept, ends_are_nodes, rings_seen, view_shape, laid_few}
+use Rattle.net.proofs.Kept.{ends_are_nodes, rings_seen, view_shape, laid_few}
 use Rattle.net.proofs.Keeping.{supports_stored, ring_found}
+use Rattle.net.proofs.Turning.{blank, read_row}
 
 module _ {M : Type 0} (n : Net M) where
   -- When next is declined
@@ -43,12 +46,15 @@ module _ {M : Type 0} (n : Net M) where
         least f (all_found q _) = let s : number f ≡ 6 = ap number q in omega arith
         least f (scratch_short q _) = let s : number f ≡ 7 = ap number q in omega arith
 
-  -- as long as a ring is due
-  module _ (more : Due (shape (view n)) (length (rings n)) → ⊥) where
+  -- as long as a ring is due, by the test for it
+  module _ {b : Bool} (told : (b ≡ true) ↔ Due (shape (view n)) (length (rings n))) (no : b ≡ false) where
+    more : Due (shape (view n)) (length (rings n)) → ⊥
+    more due = both_ways b no (told.1 due)
+
     -- fewer rings are found than there are closing pipes
     pub still_due : n.tables.found < rank (laid_out n.tables)
     still_due =
-        let most = (kept n).sound.not_over in
+        let most = n.keeps.sound.not_over in
         let other : n.tables.found ≡ rank (laid_out n.tables) → ⊥ = λ e.
         more (subst (Due (shape (view n))) (ap rank (view_shape n) ∙ sym (rings_seen n ∙ e)) (due_rank (shape (view n)) (ends_are_nodes n))) in
         omega arith
@@ -60,13 +66,13 @@ module _ {M : Type 0} (n : Net M) where
         let N : Shape = laid_out n.tables in
         let most = count_le N.pipes (closes N) in
         let pipes = laid_few n in
-        let few = (kept n).few_pipes in
+        let few = n.keeps.few_pipes in
         omega arith
 
     -- a set that is odd against the next support is there
     pub some_ring : ((x : Row) → Closed (laid_out n.tables) x → odd x (supports_of n.tables n.tables.found) ≡ true → ⊥) → ⊥
     some_ring none =
-        let x = due_ring (laid_out n.tables) n.tables.found (row_at n.tables.rows) (supports_of n.tables) (kept n).sound still_due in
+        let x = due_ring (laid_out n.tables) n.tables.found (row_at n.tables.rows) (supports_of n.tables) n.keeps.sound still_due in
         none x.0 x.1 x.2
 
     module _ (scratch : List M) where
@@ -81,30 +87,32 @@ module _ {M : Type 0} (n : Net M) where
       is_accepted l f (all_found _ all) = more all
       is_accepted l f (scratch_short _ s) = omega arith
 
--- a test that is false, where it is true exactly when the fact holds
-pub not_so_when : {P : Type 0} (b : Bool) → (b ≡ true) ↔ P → b ≡ false → P → ⊥
-not_so_when b t e p = both_ways b e (t.1 p)
-
 -- What the search answers
-
--- 1 for a refusal, and 0 else
-abbrev pub told_no : Result ℕ Refusal → ℕ
-told_no (Ok k) = 0
-told_no (Err e) = 1
 
 -- too little scratch is told with its own number
 pub short_reply : (r : Result ℕ Refusal) → is_err r ≡ true → IsErrAnd r (λ e. e ≡ ScratchTooShort) → r ≡ Err ScratchTooShort
 short_reply (Ok k) e b = absurd b
 short_reply (Err x) e b = ap Err b
 
--- a lightest set, for the same net and support
-pub lightest_as : {M : Type 0} {none : M} {join : M → M → M} {within : M → M → Bool} {N N' : Shape} {ws ws' : List M} {s s' c : Row} → N ≡ N' → ws ≡ ws' → s ≡ s'
-    → LightestOdd none join within N ws s c → LightestOdd none join within N' ws' s' c
-lightest_as {M} {none} {join} {within} {N} {N'} {ws} {ws'} {s} {s'} {c} p q r l =
-    subst (λ x. LightestOdd none join within N' ws' x c) r (subst₂ (λ x y. LightestOdd none join within x y s c) p q l)
+-- the supports that next works on are those of the net
+module _ {M : Type 0} (n : Net M) (rows : List StoredRow) (long : length rows ≡ 256) (are : (i : ℕ) → row_at rows i ≡ supports_of n.tables i) where
+  pub extended_as : {c : Row} {later : ℕ → Row} → Extended n.tables.found (row_at rows) c later → Extended n.tables.found (supports_of n.tables) c later
+  extended_as {c} {later} x = subst (λ S. Extended n.tables.found S c later) (fun_ext are) x
 
-pub extended_as : {k : ℕ} {S S' T : ℕ → Row} {c : Row} → ((i : ℕ) → S i ≡ S' i) → Extended k S c T → Extended k S' c T
-extended_as {k} {S} {S'} {T} {c} e x = subst (λ U. Extended k U c T) (fun_ext e) x
+  -- what the search finds with the first support without a ring
+  module _ (room : n.tables.found < 256) (l : Layout M) (drawn : plan l ≡ laid_out n.tables) where
+    same : (get_or rows n.tables.found blank).words ≡ supports_of n.tables n.tables.found
+    same = read_row rows n.tables.found (omega arith) ∙ are n.tables.found
+
+    module _ (none : M) (join : M → M → M) (within : M → M → Bool) {o : Option Row} (found : Found none join within l (get_or rows n.tables.found blank).words o) where
+      pub nothing_found : o ≡ None → (x : Row) → Closed (laid_out n.tables) x → odd x (supports_of n.tables n.tables.found) ≡ true → ⊥
+      nothing_found e = subst₂ (λ N s. (x : Row) → Closed N x → odd x s ≡ true → ⊥) drawn same (subst (Found none join within l (get_or rows n.tables.found blank).words) e found)
+
+      pub lightest_found : {c : Row} → o ≡ Some c → l.weights.now ≡ weights (view n) → LightestOdd none join within (laid_out n.tables) (weights (view n)) (supports_of n.tables n.tables.found) c
+      lightest_found {c} e weighed =
+          subst (λ s. LightestOdd none join within (laid_out n.tables) (weights (view n)) s c) same
+          (subst₂ (λ N ws. LightestOdd none join within N ws (get_or rows n.tables.found blank).words c) drawn weighed
+          (subst (Found none join within l (get_or rows n.tables.found blank).words) e found))
 
 -- What next leaves
 
@@ -134,7 +142,7 @@ module _ {M : Type 0} (none : M) (join : M → M → M) (within : M → M → Bo
   pub ring_kept : n.tables.found < rank (laid_out n.tables) → length supports ≡ 256 → Keeps (one_ring_more n.tables c supports)
   ring_kept due size =
       let t : Tables = n.tables in
-      let k = kept n in
+      let k = n.keeps in
       let long = k.places.1 in
       ring_found t k due c least.closed least.is_odd (set t.rows t.found (record { words = c })) supports
       (length-set t.rows t.found (record { words = c }) ∙ k.places.1) size
@@ -142,7 +150,7 @@ module _ {M : Type 0} (none : M) (join : M → M → M) (within : M → M → Bo
       (ap (λ r. r.words) (get_or-set_same t.rows t.found (record { words = c }) no_pipes (omega arith)))
       later
 
-  module _ (fits : n.tables.pipes ≤ length n.column.now) (keeps : ∥ Keeps (one_ring_more n.tables c supports) ∥₁) where
+  module _ (fits : n.tables.pipes ≤ length n.column.now) (keeps : Keeps (one_ring_more n.tables c supports)) where
     -- the net after
     abbrev pub after : Net M
     after = record { column = n.column; tables = one_ring_more n.tables c supports; fits = fits; keeps = keeps }
@@ -154,7 +162,7 @@ module _ {M : Type 0} (none : M) (join : M → M → M) (within : M → M → Bo
     found_next =
         let k : ℕ = n.tables.found in
         let back : k + 1 - 1 ≡ k = omega arith in
-        let size = (kept n).places.1 in
+        let size = n.keeps.places.1 in
         record {
           ring = c;
           next_number = ap (λ l. l + 1) (sym (rings_seen n));

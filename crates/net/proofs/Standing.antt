@@ -20,7 +20,7 @@ use Rattle.net.specs.Promise.{Answers, KeepsItsPromise}
 use Rattle.net.specs.declared.net.Net.{Net}
 use Rattle.net.specs.declared.refusal.Refusal.{Refusal}
 use Rattle.net.specs.declared.refusal.Refusal.TheVariants.{Complete}
-use Rattle.net.proofs.Kept.{kept, rings_seen, ring_seen, view_shape, ends_are_nodes}
+use Rattle.net.proofs.Kept.{rings_seen, ring_seen, view_shape, ends_are_nodes}
 use Rattle.net.proofs.Histories.{State, state}
 
 -- a measure's values are joined and ordered as the theory wants it
@@ -30,11 +30,6 @@ joins l k = record {
   monoid = record { left = l.neutral; assoc = l.assoc; comm = l.comm };
   mono = k;
 }
-
--- the number of the refusal given; 0 where none is given
-abbrev refused : Result ℕ Refusal → ℕ
-refused (Ok k) = 0
-refused (Err e) = number e
 
 module _ {M : Type 0} (zero' : M) (join : M → M → M) (within : M → M → Bool) where
   -- our rings at a moment, with the supports of the net, as the theory has them
@@ -51,7 +46,7 @@ module _ {M : Type 0} (zero' : M) (join : M → M → M) (within : M → M → B
     nodes = subst (λ v. EndsAreNodes (shape v)) s.seen (ends_are_nodes n);
     sound = as_rings (λ i l. sym (ring_seen n i (let e = rings_seen n in omega arith)))
         (subst₂ (λ N j. Sound N j (row_at n.tables.rows) (supports_of n.tables))
-        (sym (view_shape n) ∙ ap shape s.seen) (sym (rings_seen n)) (kept n).sound);
+        (sym (view_shape n) ∙ ap shape s.seen) (sym (rings_seen n)) n.keeps.sound);
     least = λ i l x c is_odd.
         subst (λ v. within (weight zero' join v (get_or (rings n) i empty)) (weight zero' join v x) ≡ true) s.seen
         (s.least i l x (subst (λ v. Closed (shape v) x) (sym s.seen) c)
@@ -83,12 +78,12 @@ module _ {M : Type 0} (zero' : M) (join : M → M → M) (within : M → M → B
     seen_basis : Due (shape (view n)) (length (rings n)) → Basis (shape m) (rings n)
     seen_basis d = due_basis (subst (λ v. Due (shape v) (length (rings n))) r.seen d)
 
-    -- where the refusal with the number 6 applies to next, our rings are a basis
-    declined_due : (sc : List M) (e : Refusal) → NextDeclined n sc e → number e ≡ 6 → Basis (shape m) (rings n)
-    declined_due sc e (all_found q d) six = seen_basis d
-    declined_due sc e (scratch_short q l) six = absurd (let z : number e ≡ 7 = ap number q in omega arith)
+    -- where the refusal Complete applies to next, our rings are a basis
+    declined_due : (sc : List M) (e : Refusal) → NextDeclined n sc e → e ≡ Complete → Basis (shape m) (rings n)
+    declined_due sc e (all_found q d) c = seen_basis d
+    declined_due sc e (scratch_short q l) c = cc
 
-    -- and no other with a number up to 6 applies to next
+    -- and no other with a number up to its own applies to next
     declined_early : (sc : List M) (e : Refusal) → NextDeclined n sc e → number e ≤ 6 → e ≡ Complete
     declined_early sc e (all_found q d) l = q
     declined_early sc e (scratch_short q s) l = absurd (let z : number e ≡ 7 = ap number q in omega arith)
@@ -96,12 +91,12 @@ module _ {M : Type 0} (zero' : M) (join : M → M → M) (within : M → M → B
     -- next is declined as complete exactly where our rings are a basis
     complete : (sc sc' : List M) (re : Result ℕ Refusal) (n' : Net M) → FindsNext zero' join within n sc re n' sc' → (re ≡ Err Complete) ↔ Basis (shape m) (rings n)
     complete sc sc' (Ok k) n' f = (
-      λ e. absurd (let z : ◌≡◌ {A = ℕ} 0 6 = ap refused e in omega arith),
+      λ e. cc,
       λ b. absurd (f.replied.0 Complete (all_found refl (basis_due b))),
     )
     complete sc sc' (Err e) n' f =
         let s = f.replied.0 in (
-          λ q. declined_due sc e s.applies (ap refused q),
+          λ q. declined_due sc e s.applies cc,
           λ b. ap Err (declined_early sc e s.applies (s.least Complete (all_found refl (basis_due b)))),
         )
 

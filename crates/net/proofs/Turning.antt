@@ -1,15 +1,14 @@
 -- How the later supports are made even against a ring. Assumes nothing.
-use Rattle.std.proofs.Common.{◌≡◌, ℕ, ◌<◌, ◌≤◌, Bool, true, false, cond, ltb, List, [], length, get_or, sym, ap, ◌∙◌, ap₂, arith, ltb-true, lt-ltb}
-use native.Mathlib.Decide.{dec_lt}
-use borrow.Author.Tests.{both_ways}
-use Rattle.std.proofs.lemmas.List.{get_or_past, get_or_default}
+use Rattle.std.proofs.Common.{◌≡◌, ℕ, ◌+◌, ◌-◌, ◌<◌, ◌≤◌, Bool, true, false, cond, List, [], ◌++◌, map, take, drop, length, get_or, sym, ap, ◌∙◌, arith}
+use borrow.Rule.Slice.PartMut.{mid_of, put_mid}
+use mathlib.Core.List.{append-nil}
+use Rattle.std.proofs.Math.ListN.{get_or-map}
+use Rattle.std.proofs.lemmas.List.{get_or_default, get_or_append_left, get_or-append_right, get_or-take, get_or-drop, take_all, drop_all, length-take-le, length-drop}
 use Rattle.cycle_space.specs.Rows.{Row, sum, odd, empty}
 use Rattle.cycle_space.specs.Supports.{Extended}
-use Rattle.cycle_space.proofs.Booleans.{not_so}
 use Rattle.cycle_space.proofs.Parities.{parity_laws}
 use Rattle.net.specs.Keeps.{no_pipes, row_at}
 use Rattle.net.specs.declared.tables.StoredRow.{StoredRow}
-use Rattle.net.proofs.Sweeps.{Swept}
 
 -- what a read of an array gives past its end
 abbrev pub blank : StoredRow
@@ -19,40 +18,47 @@ blank = record { words = [] }
 pub read_row : (rows : List StoredRow) (i : ℕ) → i < length rows → (get_or rows i blank).words ≡ row_at rows i
 read_row rows i l = ap (λ r. r.words) (get_or_default rows i blank no_pipes l)
 
-pub past_row : (rows : List StoredRow) (i : ℕ) → length rows ≤ i → row_at rows i ≡ empty
-past_row rows i l = ap (λ r. r.words) (get_or_past rows i no_pipes l)
+-- what a later support becomes, where `own` is that of the ring
+abbrev pub turned : Row → Row → StoredRow → StoredRow
+turned ring own r = cond (odd ring r.words) (record { words = sum r.words own }) r
 
-module _ (start : List StoredRow) (k : ℕ) (ring : Row) where
-  -- what the support at the place u becomes
-  abbrev pub turned : ℕ → StoredRow
-  turned u =
-      cond (ltb k u) (cond (odd ring (get_or start u blank).words) (record { words = sum (get_or start u blank).words (get_or start k blank).words }) (get_or start u blank))
-      (get_or start u blank)
+pub turned_is : (ring own : Row) (r : StoredRow) (b : Bool) → odd ring r.words ≡ b → turned ring own r ≡ cond b (record { words = sum r.words own }) r
+turned_is ring own r b e = ap (λ x. cond x (record { words = sum r.words own }) r) e
 
-  pub turned_earlier : (u : ℕ) → u ≤ k → turned u ≡ get_or start u blank
-  turned_earlier u l =
-      ap (λ b. cond b (cond (odd ring (get_or start u blank).words) (record { words = sum (get_or start u blank).words (get_or start k blank).words }) (get_or start u blank)) (get_or start u blank))
-      (not_so (ltb k u) (λ e. let h = ltb-true k u e in omega arith))
+module _ (start : List StoredRow) (k : ℕ) (ring : Row) (long : length start ≡ 256) (lk : k < 256) (own : Row) (is_own : own ≡ row_at start k) (later : List StoredRow)
+    (all : later ≡ map (turned ring own) (mid_of (k + 1) (256 - (k + 1)) start)) where
+  -- the table, and its two parts
+  abbrev table : List StoredRow
+  table = put_mid (k + 1) (256 - (k + 1)) start later
 
-  pub turned_later : (u : ℕ) → k < u → (b : Bool) → odd ring (get_or start u blank).words ≡ b
-      → turned u ≡ cond b (record { words = sum (get_or start u blank).words (get_or start k blank).words }) (get_or start u blank)
-  turned_later u l b e =
-      ap₂ (λ a b. cond a (cond b (record { words = sum (get_or start u blank).words (get_or start k blank).words }) (get_or start u blank)) (get_or start u blank)) (lt-ltb k u l) e
+  parts : table ≡ take (k + 1) start ++ map (turned ring own) (drop (k + 1) start)
+  parts =
+      let rest = length-drop (k + 1) start in
+      ap (λ rows. take (k + 1) start ++ rows)
+      (ap (λ rows. later ++ rows) (drop_all (256 - (k + 1)) (drop (k + 1) start) (omega arith)) ∙ append-nil later
+      ∙ all ∙ ap (map (turned ring own)) (take_all (256 - (k + 1)) (drop (k + 1) start) (omega arith)))
 
-  -- all places swept
-  pub turned_all : length start ≡ 256 → k < 256 → (items : List StoredRow) → Swept blank 256 start turned items 256 → Extended k (row_at start) ring (row_at items)
-  turned_all size lk items t = record {
-    earlier_stay = λ i l. at i (omega arith) ∙ ap (λ r. r.words) (turned_earlier i l) ∙ read_row start i (omega arith);
-    even_stay = λ i l e. elim (dec_lt i 256) [
-      | yes h ↦ at i h ∙ ap (λ r. r.words) (turned_later i l false (ap (odd ring) (read_row start i (omega arith)) ∙ e)) ∙ read_row start i (omega arith)
-      | no h ↦ past_row items i (let m = t.long in omega arith) ∙ sym (past_row start i (omega arith))
-    ];
-    odd_turn = λ i l e. elim (dec_lt i 256) [
-      | yes h ↦ at i h ∙ ap (λ r. r.words) (turned_later i l true (ap (odd ring) (read_row start i (omega arith)) ∙ e))
-          ∙ ap₂ sum (read_row start i (omega arith)) (read_row start k (omega arith))
-      | no h ↦ absurd (both_ways (odd ring (row_at start i)) (ap (odd ring) (past_row start i (omega arith)) ∙ parity_laws.symmetric ring empty ∙ parity_laws.none ring) e)
-    ];
+  front : length (take (k + 1) start) ≡ k + 1
+  front = length-take-le (k + 1) start (omega arith)
+
+  earlier_at : (i : ℕ) → i ≤ k → row_at table i ≡ row_at start i
+  earlier_at i l =
+      ap (λ rows. row_at rows i) parts
+      ∙ ap (λ r. r.words) (get_or_append_left (take (k + 1) start) (map (turned ring own) (drop (k + 1) start)) no_pipes i (let f = front in omega arith)
+      ∙ get_or-take (k + 1) start i no_pipes (omega arith))
+
+  later_at : (i : ℕ) → k < i → row_at table i ≡ (turned ring own (get_or start i no_pipes)).words
+  later_at i l =
+      let up : k + 1 + (i - (k + 1)) ≡ i = omega arith in
+      ap (λ rows. row_at rows i) parts
+      ∙ ap (λ r. r.words) (get_or-append_right (take (k + 1) start) (map (turned ring own) (drop (k + 1) start)) (k + 1) i no_pipes front (omega arith)
+      ∙ ap (get_or (map (turned ring own) (drop (k + 1) start)) (i - (k + 1))) (sym (turned_is ring own no_pipes false (parity_laws.symmetric ring empty ∙ parity_laws.none ring)))
+      ∙ get_or-map (turned ring own) (drop (k + 1) start) (i - (k + 1)) no_pipes
+      ∙ ap (turned ring own) (get_or-drop (k + 1) start (i - (k + 1)) no_pipes ∙ ap (λ j. get_or start j no_pipes) up))
+
+  pub turned_all : Extended k (row_at start) ring (row_at table)
+  turned_all = record {
+    earlier_stay = earlier_at;
+    even_stay = λ i l e. later_at i l ∙ ap (λ r. r.words) (turned_is ring own _ false e);
+    odd_turn = λ i l e. later_at i l ∙ ap (λ r. r.words) (turned_is ring own _ true e) ∙ ap (sum (row_at start i)) is_own;
   }
-    where
-      at : (i : ℕ) → i < 256 → row_at items i ≡ (turned i).words
-      at i h = sym (read_row items i (let m = t.long in omega arith)) ∙ ap (λ r. r.words) (t.done i h)

@@ -1,5 +1,5 @@
--- The weight of a set and the joined weight of a list of sets: laws, and the start, a step and the end of the loops that join them. Assumes nothing.
-use Rattle.std.proofs.Common.{◌≡◌, ℕ, zero, suc, ◌+◌, ◌<◌, ◌≤◌, Bool, true, false, cond, List, [], ◌∷◌, length, get_or, drop, sym, refl, ap, ◌∙◌, ap₂, arith}
+-- The weight of a set and the joined weight of a list of sets: laws, and the end and a step of the loops that join them. Assumes nothing.
+use Rattle.std.proofs.Common.{◌≡◌, ℕ, zero, suc, ◌+◌, ◌<◌, ◌≤◌, Bool, true, false, cond, List, [], ◌∷◌, length, get_or, drop, sym, refl, ap, ◌∙◌, ap₂}
 use Rattle.std.proofs.lemmas.List.{at_drop_more, at_drop_all}
 use Rattle.measures.specs.Laws.{Laws}
 use Rattle.cycle_space.specs.Rows.{Row, holds, add2, sum, empty}
@@ -43,21 +43,6 @@ module _ {M : Type 0} {none ceiling : M} {join : M → M → M} {within : M → 
   abbrev rest : ℕ → M
   rest j = weight_from none join row (j + 1) (drop j ws)
 
-  -- the weight w, at the place j, goes over to the sum where its pipe is in the row
-  pub weight_next : (j : ℕ) (w sum next : M) → j < length ws → w ≡ get_or ws j w → next ≡ cond (holds row (j + 1)) (join sum w) sum → join next (rest (j + 1)) ≡ join sum (rest j)
-  weight_next j w sum next h read e =
-      let tail : M = rest (j + 1) in
-      let over : (b : Bool) → join (cond b (join sum w) sum) tail ≡ join sum (cond b (join w tail) tail) = λ b. elim b as (λ v. join (cond v (join sum w) sum) tail ≡ join sum (cond v (join w tail) tail)) [ true ↦ laws.assoc sum w tail | false ↦ refl ] in
-      let up : j + 1 + 1 ≡ suc (j + 1) = omega arith in
-      ap (λ s. join s tail) e
-      ∙ over (holds row (j + 1))
-      ∙ ap (λ k. join sum (cond (holds row (j + 1)) (join w (weight_from none join row k (drop (j + 1) ws))) (weight_from none join row k (drop (j + 1) ws)))) up
-      ∙ ap (λ y. join sum (weight_from none join row (j + 1) (y ∷ drop (j + 1) ws))) read
-      ∙ sym (ap (join sum) (at_drop_more (weight_from none join row (j + 1)) ws j w h))
-
-  pub weight_none : (sum : M) → sum ≡ none → join sum (weight_from none join row 1 ws) ≡ weight_from none join row 1 ws
-  weight_none sum e = ap (λ s. join s (weight_from none join row 1 ws)) e ∙ laws.neutral _
-
   pub weight_all : (j : ℕ) (sum : M) → length ws ≤ j → join sum (rest j) ≡ sum
   weight_all j sum h = ap (join sum) (at_drop_all (weight_from none join row (j + 1)) ws j h) ∙ laws.comm sum none ∙ laws.neutral sum
 
@@ -72,9 +57,3 @@ module _ {M : Type 0} {none ceiling : M} {join : M → M → M} {within : M → 
       ap (λ s. join s (past (i + 1))) e
       ∙ laws.assoc joined (weight none join n (get_or rows i empty)) (past (i + 1))
       ∙ sym (ap (join joined) (at_drop_more (joined_weight none join n) rows i empty h))
-
-  pub joined_none : (joined : M) → joined ≡ none → join joined (past 0) ≡ joined_weight none join n rows
-  joined_none joined e = ap (λ s. join s (past 0)) e ∙ laws.neutral (past 0)
-
-  pub joined_all : (i : ℕ) (joined : M) → length rows ≤ i → join joined (past i) ≡ joined
-  joined_all i joined h = ap (join joined) (at_drop_all (joined_weight none join n) rows i h) ∙ laws.comm joined none ∙ laws.neutral joined

@@ -1,7 +1,9 @@
 pub mod Refusals
 pub mod Keeps
+pub mod Props
 pub mod Views
 pub mod Calls
 pub mod Histories
 pub mod Promise
 pub mod Labelled
+pub mod Places

@@ -2,17 +2,18 @@ ghost use Rattle.std.specs.Prelude.{◌≡◌, ℕ, ◌<◌, ◌==◌};
 ghost use Rattle.cycle_space.specs.Labels.{relabel, label};
 ghost use Rattle.cycle_space.specs.Moments.{shape};
 ghost use Rattle.net.specs.Views.{view};
-ghost use Rattle.net.specs.Labelled.{labelled, own_labels};
+ghost use Rattle.net.specs.Labelled.{HavePlaces, labelled, own_labels};
 
 use crate::net::Net;
 use cycle_space::Ends;
 use measures::Measure;
+use std::array;
 
 // A place for each node's number, and one for 0.
 const PLACES: usize = 65;
 
 // A label for each node, at the place of its number: two nodes have one label where the pipes laid so far join them.
-#[derive(Clone, Copy)]
+#[derive(Drop)]
 pub(crate) struct Labels {
     of: [usize; PLACES],
 }
@@ -22,23 +23,21 @@ impl Labels {
     pub(crate) fn own() -> Labels
         ensures { (v : ℕ) → v < 65 → labelled result v ≡ v }
     {
-        let mut of = [0; PLACES];
-        for v in 0..PLACES {
-            of[v] = v;
+        Labels {
+            of: array::from_fn(|v| v),
         }
-        Labels { of }
     }
 
     // One pipe more: the nodes with the greater of its ends' labels get the smaller.
     pub(crate) fn lay(&mut self, ends: Ends)
-        requires { (ends.first < 65) × (ends.second < 65) }
+        requires { HavePlaces ends }
         ensures { (v : ℕ) → v < 65 → labelled self.new v ≡ relabel (labelled self.old ends.first) (labelled self.old ends.second) (labelled self.old v) }
     {
         let p = self.of[ends.first];
         let q = self.of[ends.second];
         let low = p.min(q);
         let high = p.max(q);
-        for label in self.of.iter_mut() {
+        for label in &mut self.of {
             if *label == high {
                 *label = low;
             }
@@ -47,7 +46,7 @@ impl Labels {
 
     // Whether the ends have one label.
     pub(crate) fn joined(&self, ends: Ends) -> bool
-        requires { (ends.first < 65) × (ends.second < 65) }
+        requires { HavePlaces ends }
         ensures { result ≡ (labelled self.now ends.first == labelled self.now ends.second) }
     {
         self.of[ends.first] == self.of[ends.second]
@@ -58,24 +57,18 @@ impl Labels {
         requires { nodes < 65 }
         ensures { result ≡ own_labels self.now nodes }
     {
-        let mut parts = 0;
-        for v in 1..nodes + 1 {
-            if self.of[v] == v {
-                parts += 1;
-            }
-        }
-        parts
+        (1..nodes + 1).filter(|v| self.of[*v] == *v).count()
     }
 }
 
-impl<'a, M: Measure> Net<'a, M> {
+impl<M: Measure> Net<'_, M> {
     // The labels after all pipes.
     pub(crate) fn labels(&self) -> Labels
         ensures { (v : ℕ) → v < 65 → labelled result v ≡ label (shape (view self.now)) (shape (view self.now)).pipes v }
     {
         let mut labels = Labels::own();
-        for j in 0..self.tables.pipes {
-            labels.lay(self.tables.ends[j]);
+        for ends in self.laid() {
+            labels.lay(*ends);
         }
         labels
     }

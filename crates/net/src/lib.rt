@@ -4,6 +4,7 @@
 mod labels;
 mod net;
 mod next;
+mod places;
 mod questions;
 mod refusal;
 mod rings;

@@ -1,5 +1,6 @@
 ghost use Rattle.std.specs.Prelude.{◌≤◌, length};
 ghost use Rattle.net.specs.Keeps.{Keeps};
+ghost use Rattle.net.specs.Props.{keeps_prop};
 
 use crate::tables::Tables;
 
@@ -11,5 +12,5 @@ pub struct Net<'a, M> {
     // the column has a place for each pipe
     ghost fits: { tables.pipes ≤ length column.now },
     // there are at most 64 nodes and 256 pipes, every pipe leads from a node to another, and the rings found and their supports are sound
-    ghost keeps: { ∥ Keeps tables ∥₁ },
+    ghost keeps: { Keeps tables } by { keeps_prop tables },
 }

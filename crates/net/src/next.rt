@@ -9,21 +9,19 @@ ghost use Rattle.net.specs.Calls.{FindsNext};
 
 use crate::net::Net;
 use crate::refusal::Refusal;
-use crate::tables::StoredRow;
 use measures::Measure;
 use search::{Layout, lightest_odd};
 
-impl<'a, M: Measure> Net<'a, M> {
+impl<M: Measure> Net<'_, M> {
     // The net as the search takes it.
-    fn layout(&self) -> Layout<M>
+    fn layout(&self) -> Layout<'_, M>
         ensures drawn { plan result ≡ laid_out self.now.tables }
         ensures weighed { result.weights.now ≡ weights_of (view self.now) }
     {
-        let weights: &[M] = self.column;
         Layout {
             nodes: self.tables.nodes,
-            ends: &self.tables.ends[..self.tables.pipes],
-            weights: &weights[..self.tables.pipes],
+            ends: self.laid(),
+            weights: self.weights(),
         }
     }
 
@@ -48,7 +46,7 @@ impl<'a, M: Measure> Net<'a, M> {
             return Err(Refusal::Complete); // never: as long as a ring is due, there is such a set
         };
         supports.turn(found, ring);
-        self.tables.rows[found] = StoredRow { words: ring };
+        self.tables.rows[found].words = ring;
         self.tables.supports = supports.of;
         self.tables.found = found + 1;
         Ok(found + 1)

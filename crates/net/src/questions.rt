@@ -1,6 +1,6 @@
-ghost use Rattle.std.specs.Prelude.{◌≡◌, length};
+ghost use Rattle.std.specs.Prelude.{◌≡◌, length, take};
 ghost use Rattle.cycle_space.specs.Shapes.{Parts, Due, Closing, Exactly};
-ghost use Rattle.cycle_space.specs.Moments.{shape};
+ghost use Rattle.cycle_space.specs.Moments.{shape, weights as weights_of};
 ghost use Rattle.net.specs.Views.{view, rings};
 ghost use Rattle.net.specs.Calls.{TellsEnds, TellsWeight};
 
@@ -9,7 +9,7 @@ use crate::refusal::Refusal;
 use cycle_space::Ends;
 use measures::Measure;
 
-impl<'a, M: Measure> Net<'a, M> {
+impl<M: Measure> Net<'_, M> {
     // How many nodes there are.
     pub fn nodes(&self) -> usize
         ensures { result ≡ (view self.now).nodes }
@@ -46,24 +46,31 @@ impl<'a, M: Measure> Net<'a, M> {
         self.tables.found
     }
 
+    // The ends of the pipes laid, in their order.
+    pub(crate) fn laid(&self) -> &[Ends]
+        ensures { result.now ≡ take self.now.tables.pipes self.now.tables.ends }
+    {
+        &self.tables.ends[..self.tables.pipes]
+    }
+
+    // The weights of the pipes laid, in their order.
+    pub(crate) fn weights(&self) -> &[M]
+        ensures { result.now ≡ weights_of (view self.now) }
+    {
+        &self.column[..self.tables.pipes]
+    }
+
     // The ends of a pipe.
     pub fn ends(&self, pipe: usize) -> Result<Ends, Refusal>
         ensures { TellsEnds self.now pipe result }
     {
-        if !self.tables.has_pipe(pipe) {
-            return Err(Refusal::NoSuchPipe);
-        }
-        Ok(self.tables.ends[pipe - 1])
+        Ok(self.tables.ends[self.pipe_place(pipe)?])
     }
 
     // The weight of a pipe.
     pub fn weight(&self, pipe: usize) -> Result<M, Refusal>
         ensures { TellsWeight self.now pipe result }
     {
-        if !self.tables.has_pipe(pipe) {
-            return Err(Refusal::NoSuchPipe);
-        }
-        let weights: &[M] = self.column;
-        Ok(weights[pipe - 1])
+        Ok(self.weights()[self.pipe_place(pipe)?])
     }
 }

@@ -1,4 +1,5 @@
 ghost use Rattle.std.specs.Prelude.{◌≡◌, Some};
+ghost use Rattle.cycle_space.specs.Rows.{empty};
 ghost use Rattle.net.specs.Refusals.{number, words};
 ghost use Rattle.net.specs.declared.refusal.Refusal.TheVariants.{ScratchTooShort as TooShort};
 
@@ -10,21 +11,21 @@ use std::fmt;
 #[derive(Clone, Copy, PartialEq, Eq, Debug)]
 pub enum Refusal {
     // There are 64 nodes already.
-    NodesFull,
+    NodesFull = 1,
     // An end is no node.
-    NoSuchNode,
+    NoSuchNode = 2,
     // Both ends are one node.
-    OneNode,
+    OneNode = 3,
     // There are 256 pipes already, or the column is full.
-    PipesFull,
+    PipesFull = 4,
     // There is no such pipe.
-    NoSuchPipe,
+    NoSuchPipe = 5,
     // All due rings are found.
-    Complete,
+    Complete = 6,
     // The scratch has too few places.
-    ScratchTooShort,
+    ScratchTooShort = 7,
     // No such ring is found.
-    NoSuchRing,
+    NoSuchRing = 8,
 }
 
 impl From<ScratchTooShort> for Refusal {
@@ -42,21 +43,23 @@ pub struct NoRow {
     pub row: [u64; 4],
 }
 
+impl From<Refusal> for NoRow {
+    ghost from_gives = { λ e r. r ≡ record { refusal = e; row = empty } };
+
+    fn from(refusal: Refusal) -> NoRow {
+        NoRow {
+            refusal,
+            row: [0; 4],
+        }
+    }
+}
+
 impl Refusal {
     // The number by which the refusal is known.
     pub fn number(self) -> u8
         ensures { result ≡ number self }
     {
-        match self {
-            Refusal::NodesFull => 1,
-            Refusal::NoSuchNode => 2,
-            Refusal::OneNode => 3,
-            Refusal::PipesFull => 4,
-            Refusal::NoSuchPipe => 5,
-            Refusal::Complete => 6,
-            Refusal::ScratchTooShort => 7,
-            Refusal::NoSuchRing => 8,
-        }
+        self as u8
     }
 
     // The reason, in words.

@@ -10,48 +10,33 @@ use crate::refusal::{NoRow, Refusal};
 use crate::weight::weight_of;
 use measures::Measure;
 
-const NO_SUCH_RING: NoRow = NoRow {
-    refusal: Refusal::NoSuchRing,
-    row: [0; 4],
-};
-
-impl<'a, M: Measure> Net<'a, M> {
+impl<M: Measure> Net<'_, M> {
     // The row of a ring.
     pub fn ring(&self, ring: usize) -> Result<[u64; 4], NoRow>
         ensures { TellsRow self.now ring (ring_row self.now ring) result }
     {
-        if !self.tables.has_ring(ring) {
-            return Err(NO_SUCH_RING);
-        }
-        Ok(self.tables.rows[ring - 1].words)
+        Ok(self.tables.rows[self.ring_place(ring)?].words)
     }
 
     // The support of a ring.
     pub fn support(&self, ring: usize) -> Result<[u64; 4], NoRow>
         ensures { TellsRow self.now ring (support_of self.now ring) result }
     {
-        if !self.tables.has_ring(ring) {
-            return Err(NO_SUCH_RING);
-        }
-        Ok(self.tables.supports[ring - 1].words)
+        Ok(self.tables.supports[self.ring_place(ring)?].words)
     }
 
     // The weight of a set of the net's pipes.
     fn weighed(&self, row: [u64; 4]) -> M
         ensures { result ≡ set_weight M.Measure.zero M.Measure.join (view self.now) row }
     {
-        let weights: &[M] = self.column;
-        weight_of(&weights[..self.tables.pipes], row)
+        weight_of(self.weights(), row)
     }
 
     // The weight of a ring.
     pub fn ring_weight(&self, ring: usize) -> Result<M, Refusal>
         ensures { TellsRingWeight M.Measure.zero M.Measure.join self.now ring result }
     {
-        if !self.tables.has_ring(ring) {
-            return Err(Refusal::NoSuchRing);
-        }
-        Ok(self.weighed(self.tables.rows[ring - 1].words))
+        Ok(self.weighed(self.tables.rows[self.ring_place(ring)?].words))
     }
 
     // The joined weight of all rings found; zero if there is none.
@@ -59,8 +44,8 @@ impl<'a, M: Measure> Net<'a, M> {
         ensures { result ≡ joined_weight M.Measure.zero M.Measure.join (view self.now) (rings self.now) }
     {
         let mut joined = M::zero();
-        for i in 0..self.tables.found {
-            joined = joined.join(self.weighed(self.tables.rows[i].words));
+        for row in &self.tables.rows[..self.tables.found] {
+            joined = joined.join(self.weighed(row.words));
         }
         joined
     }

@@ -4,12 +4,12 @@ ghost use Rattle.net.specs.Keeps.{laid_out, row_at, supports_of};
 
 use crate::labels::Labels;
 use crate::net::Net;
-use crate::tables::StoredRow;
+use crate::tables::{NO_PIPES, StoredRow};
 use cycle_space::{parity, single, sum};
 use measures::Measure;
 
 // The supports as next works on them: that of ring i at the place i - 1.
-#[derive(Clone, Copy)]
+#[derive(Drop)]
 pub(crate) struct Supports {
     pub(crate) of: [StoredRow; 256],
 }
@@ -22,35 +22,28 @@ impl Supports {
         ensures long { length self.new.of ≡ 256 }
     {
         let own = self.of[found].words;
-        for i in found + 1..256 {
-            let later = self.of[i].words;
-            if parity(ring, later) {
-                self.of[i] = StoredRow {
-                    words: sum(later, own),
-                };
+        for later in &mut self.of[found + 1..] {
+            if parity(ring, later.words) {
+                later.words = sum(later.words, own);
             }
         }
     }
 }
 
-impl<'a, M: Measure> Net<'a, M> {
+impl<M: Measure> Net<'_, M> {
     // Each closing pipe alone, in the order of the pipes.
     fn closing_pipes(&self) -> Supports
         ensures { (i : ℕ) → row_at result.of i ≡ alone (laid_out self.now.tables) i }
     {
-        let no_pipes = StoredRow { words: [0; 4] };
-        let mut of = [no_pipes; 256];
+        let mut of = [NO_PIPES; 256];
         let mut labels = Labels::own();
         let mut closing = 0;
-        for j in 0..self.tables.pipes {
-            let ends = self.tables.ends[j];
-            if labels.joined(ends) {
-                of[closing] = StoredRow {
-                    words: single(j + 1),
-                };
+        for (place, ends) in self.laid().iter().enumerate() {
+            if labels.joined(*ends) {
+                of[closing].words = single(place + 1);
                 closing += 1;
             }
-            labels.lay(ends);
+            labels.lay(*ends);
         }
         Supports { of }
     }

@@ -4,8 +4,6 @@ ghost use Rattle.cycle_space.specs.Moments.{WeightLaws};
 use measures::Measure;
 
 // The empty set weighs nothing, and sets without a common pipe weigh together what they weigh each.
-pub fn weights_add_up<M: Measure>() -> u8
+pub fn weights_add_up<M: Measure>()
     ensures { WeightLaws M.Measure.zero M.Measure.join }
-{
-    0
-}
+{}

@@ -6,7 +6,7 @@ ghost use Rattle.net.specs.Promise.{KeepsItsPromise};
 
 use crate::net::Net;
 use crate::refusal::Refusal;
-use crate::tables::{MOST_NODES, MOST_PIPES, StoredRow, Tables};
+use crate::tables::{MOST_NODES, MOST_PIPES, NO_PIPES, NOWHERE, Tables};
 use cycle_space::Ends;
 use measures::Measure;
 
@@ -19,20 +19,15 @@ impl<'a, M: Measure> Net<'a, M> {
         ensures lent { result.column.ghost_name ≡ column.entry.ghost_name }
     {
         M::join_keeps_order();
-        let nowhere = Ends {
-            first: 0,
-            second: 0,
-        };
-        let no_pipes = StoredRow { words: [0; 4] };
         Net {
             column,
             tables: Tables {
                 nodes: 0,
                 pipes: 0,
                 found: 0,
-                ends: [nowhere; 256],
-                rows: [no_pipes; 256],
-                supports: [no_pipes; 256],
+                ends: [NOWHERE; 256],
+                rows: [NO_PIPES; 256],
+                supports: [NO_PIPES; 256],
             },
         }
     }
@@ -55,7 +50,7 @@ impl<'a, M: Measure> Net<'a, M> {
         ensures replied { Lays self.old first second weight result self.new }
         ensures lent { self.new.column.ghost_name ≡ self.old.column.ghost_name }
     {
-        if !self.tables.has_node(first) || !self.tables.has_node(second) {
+        if !self.has_node(first) || !self.has_node(second) {
             return Err(Refusal::NoSuchNode);
         }
         if first == second {
@@ -91,10 +86,7 @@ impl<'a, M: Measure> Net<'a, M> {
         ensures replied { Reweighs self.old pipe weight result self.new }
         ensures lent { self.new.column.ghost_name ≡ self.old.column.ghost_name }
     {
-        if !self.tables.has_pipe(pipe) {
-            return Err(Refusal::NoSuchPipe);
-        }
-        self.column[pipe - 1] = weight;
+        self.column[self.pipe_place(pipe)?] = weight;
         self.tables.found = 0; // a ring may have become too heavy
         Ok(())
     }

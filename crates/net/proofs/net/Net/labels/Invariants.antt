@@ -6,5 +6,5 @@ use Rattle.net.specs.Labelled.{labelled}
 use Rattle.net.proofs.net.Net.labels.Given as goal
 
 -- the labels after the pipes so far
-abbrev pub invariant-loop-j : goal.invariant-loop-j
-invariant-loop-j g l = (v : ℕ) → v < 65 → labelled l.labels v ≡ label (shape (view l.self)) l.j v
+abbrev pub invariant-loop-ends : goal.invariant-loop-ends
+invariant-loop-ends g l = (v : ℕ) → v < 65 → labelled l.labels v ≡ label (shape (view l.self)) l.ends-index v

@@ -1,24 +1,19 @@
-use Rattle.std.proofs.Common.{sym, refl, ◌∙◌, subst, arith}
-use Rattle.std.proofs.lemmas.List.{length-take-le}
+use Rattle.std.proofs.Common.{length, map, sym, ap, ◌∙◌, subst, arith}
 use Rattle.cycle_space.specs.Shapes.{EndsAreNodes}
-use Rattle.net.proofs.Kept.{kept, ends_for_all, ends_are_nodes, view_shape, weights_seen}
+use Rattle.cycle_space.specs.Moments.{drawn}
+use Rattle.net.proofs.Kept.{weights_many, laid_long, view_shape, ends_are_nodes}
 use Rattle.net.proofs.net.Net.layout.Goals as goal
-
-pub shared_ref_as_front-result : goal.shared_ref_as_front-result
-shared_ref_as_front-result g c = let few = (kept c.args.self.now).few_pipes in omega arith
 
 -- what every net keeps is what the search wants
 pub invariant_of-result : goal.invariant_of-result
 invariant_of-result g c =
     let n = c.args.self.now in
-    let few = (kept n).few_pipes in
-    let long = length-take-le n.tables.pipes n.tables.ends (ends_for_all n) in
+    let long = laid_long n _ c.laid.ensures in
+    let few = n.keeps.few_pipes in
     record {
-      few_nodes = (kept n).few_nodes;
+      few_nodes = n.keeps.few_nodes;
       few_pipes = omega arith;
-      weighed = length-take-le n.tables.pipes n.column.now n.fits ∙ sym long;
-      ends_in = subst EndsAreNodes (view_shape n) (ends_are_nodes n);
+      weighed = ap length c.weights.ensures ∙ weights_many n ∙ sym long;
+      ends_in = subst (λ es. EndsAreNodes (drawn n.tables.nodes (map (λ e. e.first) es) (map (λ e. e.second) es))) (sym c.laid.ensures)
+          (subst EndsAreNodes (view_shape n) (ends_are_nodes n));
     }
-
-pub returns : goal.returns
-returns g c = record { drawn = refl; weighed = sym (weights_seen c.args.self.now) }

@@ -1,44 +1,37 @@
-use Rattle.std.proofs.Common.{◌≡◌, ℕ, ◌+◌, true, false, List, length, get_or, set, sym, refl, ap, ◌∙◌, subst, arith, rules}
-use Rattle.cycle_space.specs.Rows.{Row, sum, odd}
+use Rattle.std.proofs.Common.{◌≡◌, ℕ, ◌+◌, ◌-◌, true, false, List, ◌++◌, map, get_or, set, length, sym, ap, ◌∙◌, ap₂, arith, rules}
+use borrow.Rule.Slice.PartMut.{mid_of}
+use mathlib.Core.List.{append-nil}
+use Rattle.std.proofs.lemmas.List.Edits.{map_over_more}
+use Rattle.std.proofs.lemmas.List.{get_or_default, take_all, drop_all}
+use Rattle.cycle_space.specs.Rows.{Row}
 use Rattle.net.specs.declared.tables.StoredRow.{StoredRow}
-use Rattle.net.proofs.Sweeps.{Swept, swept_write, swept_skip}
-use Rattle.net.proofs.Turning.{blank, turned, turned_earlier, turned_later, turned_all}
+use Rattle.net.proofs.Turning.{blank, turned, turned_is, read_row, turned_all}
 use Rattle.net.proofs.supports.Supports.turn.Goals as goal
 use Rattle.net.proofs.supports.Supports.turn.Goals.{then-parity, else-parity}
 
-pub loop-i-init : goal.loop-i-init
-loop-i-init c =
-    let long : length c.args.self.now.of ≡ 256 = search rules in
-    record { long = long; done = λ u h. sym (turned_earlier _ _ _ u (omega arith)); left = λ u h. refl }
+pub loop-later-preserved : goal.loop-later-preserved
+loop-later-preserved c =
+    let items : List StoredRow = c.loop-later.later-items in
+    let i : ℕ = c.loop-later.later-index in
+    let own : Row = (get_or c.args.self.now.of c.args.found blank).words in
+    let row : StoredRow = get_or items i blank in
+    let written : c.if-parity.later-items ≡ set items i (turned c.args.ring own row) =
+    (elim c.if-parity.branch [
+      | then-parity w ↦ w.later-items-is
+          ∙ ap (set items i) (ap (λ r. record { words = r }) w.sum-later.ensures.value ∙ sym (turned_is c.args.ring own row true (sym c.parity.ensures ∙ w.if-parity.true)))
+      | else-parity w ↦ w.later-items-is ∙ ap (set items i) (sym (turned_is c.args.ring own row false (sym c.parity.ensures ∙ w.if-parity.false)))
+    ]) in
+    written ∙ map_over_more (turned c.args.ring own) _ items i row c.loop-later-test.true c.loop-later.invariant (get_or_default items i blank _ (omega arith))
 
-pub loop-i-preserved : goal.loop-i-preserved
-loop-i-preserved c =
+pub returns-clause-turned : goal.returns-clause-turned
+returns-clause-turned c =
     let start : List StoredRow = c.args.self.now.of in
-    let items : List StoredRow = c.loop-i.self.of in
     let k : ℕ = c.args.found in
-    let ring : Row = c.args.ring in
-    let i : ℕ = c.loop-i.i in
-    let inv : Swept blank 256 start (turned start k ring) items i = c.loop-i.invariant in
-    let same : get_or items i blank ≡ get_or start i blank = inv.left i (omega arith) in
-    let is : c.parity.result ≡ odd ring (get_or start i blank).words = c.parity.ensures ∙ ap (λ r. odd ring r.words) same in
-    elim c.if-parity.branch [
-      | then-parity w ↦ subst (λ xs. Swept blank 256 start (turned start k ring) xs (i + 1))
-          (ap (set items i)
-          (turned_later start k ring i (omega (arith, c.loop-i.auto.i)) true (sym is ∙ w.if-parity.true)
-          ∙ ap (λ r. record { words = sum r.words (get_or start k blank).words }) (sym same)
-          ∙ ap (λ x. record { words = x }) (sym w.sum.ensures.value))
-          ∙ sym (ap (λ s. s.of) w.self-is))
-          (swept_write blank 256 start (turned start k ring) items i inv c.loop-i-test.true)
-      | else-parity w ↦ subst (λ xs. Swept blank 256 start (turned start k ring) xs (i + 1)) (sym (ap (λ s. s.of) w.self-is))
-          (swept_skip blank 256 start (turned start k ring) items i inv (sym (turned_later start k ring i (omega (arith, c.loop-i.auto.i)) false (sym is ∙ w.if-parity.false))))
-    ]
-
-pub returns : goal.returns
-returns c =
-    let long : length c.args.self.now.of ≡ 256 = search rules in
-    let all : c.loop-i.i ≡ 256 = omega (arith, c.loop-i.auto.i-end) in
-    record {
-      turned = turned_all c.args.self.now.of c.args.found c.args.ring long c.requires c.loop-i.self.of
-          (subst (Swept blank 256 c.args.self.now.of (turned c.args.self.now.of c.args.found c.args.ring) c.loop-i.self.of) all c.loop-i.invariant);
-      long = c.loop-i.invariant.long;
-    }
+    let long : length start ≡ 256 = search rules in
+    let own : Row = (get_or start k blank).words in
+    let later : List StoredRow = mid_of (k + 1) (256 - (k + 1)) start in
+    let over = c.loop-later-test.false in
+    turned_all start k c.args.ring long c.requires own (read_row start k (omega arith)) c.loop-later.later-items
+    (c.loop-later.invariant
+    ∙ ap₂ (λ done left. map (turned c.args.ring own) done ++ left) (take_all _ later over) (drop_all _ later over)
+    ∙ append-nil (map (turned c.args.ring own) later))

@@ -1,6 +1,7 @@
-use Rattle.net.proofs.Sweeps.{Swept}
-use Rattle.net.proofs.Turning.{blank, turned}
+use Rattle.std.proofs.Common.{◌≡◌, map, take, drop, ◌++◌}
+use Rattle.net.proofs.Turning.{turned}
 use Rattle.net.proofs.supports.Supports.turn.Given as goal
 
-abbrev pub invariant-loop-i : goal.invariant-loop-i
-invariant-loop-i l = Swept blank 256 l.initial.self.of (turned l.initial.self.of l.found l.ring) l.self.of l.i
+-- the later supports so far are turned, and those that are left are as they were
+abbrev pub invariant-loop-later : goal.invariant-loop-later
+invariant-loop-later l = l.later-items ≡ map (turned l.ring l.own) (take l.later-index l.initial.later-items) ++ drop l.later-index l.initial.later-items
