@@ -1,7 +1,8 @@
 -- How many of the numbers below n pass a test. Assumes nothing.
-use Rattle.std.proofs.Common.{◌≡◌, ℕ, zero, suc, ◌+◌, ◌<◌, ◌≤◌, Bool, true, false, cond, eqb, ◌↔◌, sym, refl, ap, ◌∙◌, subst, ap₂, arith, ne_eqb}
+use Rattle.std.proofs.Common.{◌≡◌, ℕ, zero, suc, ◌+◌, ◌<◌, ◌≤◌, Bool, true, false, cond, eqb, ◌↔◌, sym, refl, ap, ◌∙◌, subst, arith}
 use native.Mathlib.Decide.{dec_lt}
 use borrow.Author.Tests.{both_ways}
+use Rattle.std.proofs.lemmas.Bool.Decides.{nat_tests}
 use Rattle.cycle_space.specs.Sums.{fold, count}
 use Rattle.cycle_space.specs.Rows.{add2}
 use Rattle.cycle_space.specs.Shapes.{Exactly, none, one, other}
@@ -14,16 +15,12 @@ count_same n u v h = fold_same numbers n (λ i. cond (u i) 1 0) (λ i. cond (v i
 pub count_le : (n : ℕ) (x : ℕ → Bool) → count n x ≤ n
 unfolding fold
 count_le zero x = omega arith
-count_le (suc n) x = go (x n) (count_le n x)
-  where
-    go : (b : Bool) → count n x ≤ n → cond b 1 0 + count n x ≤ suc n
-    go true h = omega arith
-    go false h = omega arith
+count_le (suc n) x = let r = count_le n x in grind arith
 
 pub count_all : (n : ℕ) (x : ℕ → Bool) → ((i : ℕ) → i < n → x i ≡ true) → count n x ≡ n
 unfolding fold
 count_all zero x h = refl
-count_all (suc n) x h = ap₂ (λ b k. cond b 1 0 + k) (h n (omega arith)) (count_all n x (λ i l. h i (omega arith))) ∙ omega arith
+count_all (suc n) x h = let r = count_all n x in grind arith
 
 pub count_front : (n : ℕ) (x : ℕ → Bool) → count (suc n) x ≡ cond (x 0) 1 0 + count n (λ i. x (suc i))
 count_front n x = fold_front numbers n (λ i. cond (x i) 1 0)
@@ -36,49 +33,35 @@ pub count_out : (n : ℕ) (u : ℕ → Bool) (i : ℕ) → i < n → u i ≡ tru
 unfolding fold
 count_out zero u i h e = absurd (omega arith)
 count_out (suc n) u i h e =
-    by_eqb (λ t. suc (cond (add2 (u n) t) 1 0 + count n (flip u i)) ≡ cond (u n) 1 0 + count n u) n i
-    (λ q. subst (λ b. suc (cond (add2 b true) 1 0 + count n (flip u i)) ≡ cond b 1 0 + count n u) (sym (ap u q ∙ e))
-    (let same = count_same n (flip u i) u (λ j l. ap (add2 (u j)) (ne_eqb j i (λ p. omega arith)) ∙ add2_false (u j)) in omega arith))
-    (λ q. go (u n) (count_out n u i (omega arith) e))
-  where
-    go : (b : Bool) → suc (count n (flip u i)) ≡ count n u → suc (cond (add2 b false) 1 0 + count n (flip u i)) ≡ cond b 1 0 + count n u
-    go true k = omega arith
-    go false k = omega arith
+    let r = count_out n u i in
+    let same : ((j : ℕ) → j < n → j ≡ i → ⊥) → count n (flip u i) ≡ count n u = λ h. count_same n (flip u i) u (λ j l. let k = h j l in grind (arith, nat_tests)) in
+    grind (arith, nat_tests)
 
 -- a test that passes wherever the other does counts no less
 pub count_less : (n : ℕ) (u v : ℕ → Bool) → ((i : ℕ) → i < n → u i ≡ true → v i ≡ true) → count n u ≤ count n v
 unfolding fold
 count_less zero u v h = omega arith
-count_less (suc n) u v h = go (count_less n u v (λ i l. h i (omega arith))) (u n) refl (v n) refl
-  where
-    go : count n u ≤ count n v → (b : Bool) → u n ≡ b → (c : Bool) → v n ≡ c → cond b 1 0 + count n u ≤ cond c 1 0 + count n v
-    go rest true p true q = omega arith
-    go rest true p false q = absurd (both_ways (v n) q (h n (omega arith) p))
-    go rest false p true q = omega arith
-    go rest false p false q = omega arith
+count_less (suc n) u v h = let r = count_less n u v in let here = h n in grind arith
 
 -- The numbers that pass, in their order
 
 pub count_up : (x : ℕ → Bool) (j l : ℕ) → j ≤ l → count j x ≤ count l x
 unfolding fold
-count_up x j zero h = subst (λ i. count i x ≤ 0) (let q : 0 ≡ j = omega arith in q) (omega arith)
-count_up x j (suc l) h =
-    by_eqb (λ _. count j x ≤ count (suc l) x) j (suc l) (λ q. subst (λ i. count i x ≤ count (suc l) x) (sym q) (omega arith))
-    (λ ne. let r = count_up x j l (omega arith) in omega arith)
+count_up x j zero h = grind arith
+count_up x j (suc l) h = let r = count_up x j l in by_eqb (λ _. count j x ≤ count (suc l) x) j (suc l) (λ q. grind arith) (λ ne. grind arith)
 
 pub count_at : (x : ℕ → Bool) (j : ℕ) → x j ≡ true → count (suc j) x ≡ suc (count j x)
 unfolding fold
-count_at x j h = ap (λ b. cond b 1 0 + count j x) h ∙ omega arith
+count_at x j h = grind arith
 
 -- two that pass, with equally many before them, are one
 pub count_same_place : (x : ℕ → Bool) (j l : ℕ) → x j ≡ true → x l ≡ true → count j x ≡ count l x → j ≡ l
 count_same_place x j l hj hl e =
     let one = count_at x j hj in
     let two = count_at x l hl in
-    elim (dec_lt j l) [
-      | yes lt ↦ absurd (let m = count_up x (suc j) l lt in omega arith)
-      | no ge ↦ elim (dec_lt l j) [ yes lt ↦ absurd (let m = count_up x (suc l) j lt in omega arith) | no le ↦ omega arith ]
-    ]
+    let up = count_up x (suc j) l in
+    let down = count_up x (suc l) j in
+    grind arith
 
 -- the one that has i before it
 pub count_find : (x : ℕ → Bool) (m i : ℕ) → i < count m x → (j : ℕ) × (j < m) × (x j ≡ true) × (count j x ≡ i)
@@ -112,8 +95,7 @@ hit f (suc k) j = cond (eqb j (f k)) true (hit f k j)
 
 pub fresh : (f : ℕ → ℕ) (k j : ℕ) → ((i : ℕ) → i < k → f i ≡ j → ⊥) → hit f k j ≡ false
 fresh f zero j h = refl
-fresh f (suc k) j h =
-    by_eqb (λ t. cond t true (hit f k j) ≡ false) j (f k) (λ q. absurd (h k (omega arith) (sym q))) (λ _. fresh f k j (λ i l. h i (omega arith)))
+fresh f (suc k) j h = let r = fresh f k j in grind (arith, nat_tests)
 
 pub hits : (n : ℕ) (f : ℕ → ℕ) (k : ℕ) → Different k n f → count n (hit f k) ≡ k
 hits n f zero d = fold_none numbers n (λ j. cond (hit f zero j) 1 0) (λ _ _. refl)
@@ -166,25 +148,14 @@ module _ {Such : ℕ → Type 0} (x : ℕ → Bool) (decides : (i : ℕ) → (x 
 pub count_full : (n : ℕ) (x : ℕ → Bool) → count n x ≡ n → (j : ℕ) → j < n → x j ≡ true
 unfolding fold
 count_full zero x q j l = absurd (omega arith)
-count_full (suc n) x q j l = go (x n) refl q (count_le n x) (count_full n x)
-  where
-    go : (b : Bool) → x n ≡ b → cond b 1 0 + count n x ≡ suc n → count n x ≤ n → (count n x ≡ n → (j : ℕ) → j < n → x j ≡ true) → x j ≡ true
-    go true e p few ih = by_eqb (λ _. x j ≡ true) j n (λ s. ap x s ∙ e) (λ ne. ih (omega arith) j (omega arith))
-    go false e p few ih = absurd (omega arith)
+count_full (suc n) x q j l = let few = count_le n x in let r = count_full n x in grind arith
 
 pub count_left : (n : ℕ) (x : ℕ → Bool) → count n x < n → (j : ℕ) × (j < n) × (x j ≡ false)
 unfolding fold
 count_left zero x q = absurd (omega arith)
-count_left (suc n) x q = go (x n) refl q (count_left n x)
-  where
-    go : (b : Bool) → x n ≡ b → cond b 1 0 + count n x < suc n → (count n x < n → (j : ℕ) × (j < n) × (x j ≡ false)) → (j : ℕ) × (j < suc n) × (x j ≡ false)
-    go true e p ih = let r = ih (omega arith) in (r.0, omega arith, r.2)
-    go false e p ih = (n, omega arith, e)
+count_left (suc n) x q = let r = count_left n x in grind arith
 
 -- what is not hit is none of them
 pub hit_fresh : (f : ℕ → ℕ) (k j : ℕ) → hit f k j ≡ false → (i : ℕ) → i < k → f i ≡ j → ⊥
 hit_fresh f zero j h i l q = omega arith
-hit_fresh f (suc k) j h i l q =
-    by_eqb (λ t. cond t true (hit f k j) ≡ false → ⊥) j (f k)
-    (λ _ p. both_ways true p refl)
-    (λ ne p. by_eqb (λ _. ⊥) i k (λ same. ne (sym q ∙ ap f same)) (λ other. hit_fresh f k j p i (omega arith) q)) h
+hit_fresh f (suc k) j h i l q = let r = hit_fresh f k j in grind (arith, nat_tests)

@@ -1,11 +1,11 @@
 -- Sound rings exist, as many as there are closing pipes, and are a basis, so what is proved of rings is proved of something; and every basis has as many members. Assumes nothing.
-use Rattle.std.proofs.Common.{◌≡◌, ℕ, zero, suc, ◌≤◌, Bool, true, false, cond, ◌&&◌, ltb, List, length, get_or, sym, refl, ap, ◌∙◌, subst, ap₂, arith, ltb-true, lt-ltb}
+use Rattle.std.proofs.Common.{◌≡◌, ℕ, zero, suc, ◌≤◌, Bool, true, false, cond, ◌&&◌, ltb, List, length, get_or, sym, refl, ◌∙◌, subst, arith}
+use Rattle.std.proofs.lemmas.Bool.Decides.{nat_tests}
 use native.Mathlib.Decide.{dec_lt}
 use Rattle.cycle_space.specs.Rows.{Row, bit, holds, empty, sum, odd}
 use Rattle.cycle_space.specs.Shapes.{Shape, Due}
 use Rattle.cycle_space.specs.Bases.{Basis}
 use Rattle.cycle_space.specs.Supports.{rank, alone, Sound, Extended, BasesExist, ClosingPipesTell, BasesHaveDueSize}
-use Rattle.cycle_space.proofs.Booleans.{not_so, and_false}
 use Rattle.cycle_space.proofs.Bases.{put}
 use Rattle.cycle_space.proofs.Exchanges.{kept, put_at, exchange}
 use Rattle.cycle_space.proofs.Counts.{same_size}
@@ -24,13 +24,10 @@ turn k support c i = cond (ltb k i && odd c (support i)) (sum (support i) (suppo
 
 turn_extends : (k : ℕ) (support : ℕ → Row) (c : Row) → Extended k support c (turn k support c)
 turn_extends k support c = record {
-  earlier_stay = λ i l. which i (ap (λ b. b && odd c (support i)) (not_so (ltb k i) (λ e. let lt = ltb-true k i e in omega arith)));
-  even_stay = λ i l e. which i (ap (λ b. ltb k i && b) e ∙ and_false (ltb k i));
-  odd_turn = λ i l o. ap (λ b. cond b (sum (support i) (support k)) (support i)) (ap₂ ◌&&◌ (lt-ltb k i l) o);
+  earlier_stay = λ i l. grind (arith, nat_tests);
+  even_stay = λ i l e. grind (arith, nat_tests);
+  odd_turn = λ i l o. grind (arith, nat_tests);
 }
-  where
-    which : (i : ℕ) → (ltb k i && odd c (support i)) ≡ false → turn k support c i ≡ support i
-    which i e = ap (λ b. cond b (sum (support i) (support k)) (support i)) e
 
 -- one ring after the other
 reach : (N : Shape) → N.pipes ≤ 256 → (k : ℕ) → k ≤ rank N → (ring : ℕ → Row) × (support : ℕ → Row) × Sound N k ring support

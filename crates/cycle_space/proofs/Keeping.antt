@@ -1,5 +1,6 @@
 -- How rings and supports stay sound: before the first ring, with another number of nodes, with one more ring. Assumes nothing.
-use Rattle.std.proofs.Common.{◌≡◌, ℕ, zero, suc, ◌+◌, ◌%◌, ◌<◌, ◌≤◌, Bool, true, false, cond, ◌&&◌, eqb, ltb, length, sym, refl, ap, ◌∙◌, subst, ap₂, inl, inr, arith, ltb-true, le-ltb, lt-ltb, eq-eqb, eqb-true}
+use Rattle.std.proofs.Common.{◌≡◌, ℕ, zero, suc, ◌+◌, ◌%◌, ◌<◌, ◌≤◌, Bool, true, false, cond, ◌&&◌, eqb, ltb, length, sym, refl, ap, ◌∙◌, subst, ap₂, inl, inr, arith, le-ltb}
+use Rattle.std.proofs.lemmas.Bool.Decides.{nat_tests}
 use mathlib.Core.Path.{fun_ext}
 use native.Mathlib.Decide.{dec_lt}
 use Rattle.cycle_space.specs.Sums.{count}
@@ -8,7 +9,7 @@ use Rattle.cycle_space.specs.Shapes.{Shape, Closing, Exactly}
 use Rattle.cycle_space.specs.Labels.{relabel, label, closes}
 use Rattle.cycle_space.specs.Bases.{OfPipes, touching, Closed}
 use Rattle.cycle_space.specs.Supports.{rank, before, alone, Sound, Extended, AloneHolds}
-use Rattle.cycle_space.proofs.Booleans.{by_eqb, not_so, and_left, and_right, either}
+use Rattle.cycle_space.proofs.Booleans.{by_eqb, not_so, either}
 use Rattle.cycle_space.proofs.Bits.{known_by_pipes, row_of_words, row_bit, bit_past, empty_bit, empty_row, sum_bit, sum_holds, sum_row}
 use Rattle.cycle_space.proofs.Singles.{single_bit}
 use Rattle.cycle_space.proofs.Parities.{parity_laws}
@@ -33,14 +34,10 @@ alone_bit N few i j = elim (dec_lt j 256) [
 alone_in : (N : Shape) → N.pipes ≤ 256 → (i j : ℕ) → bit (alone N i) j ≡ true → (j < N.pipes) × (closes N j ≡ true) × (before N j ≡ i)
 alone_in N few i j h =
     let t = sym (alone_bit N few i j) ∙ h in
-    let c = and_right (ltb j N.pipes) (closes N j && eqb (before N j) i) t in (
-      ltb-true j N.pipes (and_left (ltb j N.pipes) (closes N j && eqb (before N j) i) t),
-      and_left (closes N j) (eqb (before N j) i) c,
-      eqb-true (before N j) i (and_right (closes N j) (eqb (before N j) i) c),
-    )
+    grind (arith, nat_tests)
 
 in_alone : (N : Shape) → N.pipes ≤ 256 → (i j : ℕ) → j < N.pipes → closes N j ≡ true → before N j ≡ i → bit (alone N i) j ≡ true
-in_alone N few i j l c e = alone_bit N few i j ∙ ap₂ ◌&&◌ (lt-ltb j N.pipes l) (ap₂ ◌&&◌ c (eq-eqb (before N j) i e))
+in_alone N few i j l c e = let t = alone_bit N few i j in grind (arith, nat_tests)
 
 pub alone_holds : AloneHolds
 alone_holds N few i j = (

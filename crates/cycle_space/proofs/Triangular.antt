@@ -3,7 +3,7 @@ use Rattle.std.proofs.Common.{◌≡◌, ℕ, zero, suc, ◌<◌, ◌≤◌, Boo
 use borrow.Author.Tests.{both_ways}
 use Rattle.cycle_space.specs.Sums.{fold}
 use Rattle.cycle_space.specs.Rows.{add2}
-use Rattle.cycle_space.proofs.Booleans.{by_eqb, add2_same, add2_false, add2_equal}
+use Rattle.cycle_space.proofs.Booleans.{by_eqb, add2_same, add2_false}
 use Rattle.cycle_space.proofs.Folds.{fold_same}
 use Rattle.cycle_space.proofs.Linear.{picked, Space, Spans, Rings}
 use Rattle.cycle_space.proofs.Bases.{put, picked_add, even, at_none}
@@ -73,7 +73,8 @@ module _ {M : Type 0} {e : M} {op : M → M → M} {In : M → Type 0} (sp : Spa
       ring_basis = record {
         members = rings.inside;
         spans = λ x x_in. reach d (omega arith) x x_in (λ i dl il. absurd (omega arith));
-        unique = λ s t eq i il. add2_equal (s i) (t i)
-            (none_picked d (omega arith) (λ j. add2 (s j) (t j))
-            (picked_add sp d C s t ∙ ap (λ x. op x (picked e op d C t)) eq ∙ sp.twice (picked e op d C t)) i il);
+        unique = λ s t eq i il.
+            let same = none_picked d (omega arith) (λ j. add2 (s j) (t j))
+            (picked_add sp d C s t ∙ ap (λ x. op x (picked e op d C t)) eq ∙ sp.twice (picked e op d C t)) i il in
+            grind arith;
       }
