@@ -1,5 +1,5 @@
 -- Rings carried over a pairing of the pipes of two nets, and equal counts. Assumes nothing.
-use Rattle.std.proofs.Common.{◌≡◌, ℕ, zero, suc, ◌<◌, ◌≤◌, Bool, true, false, cond, ◌&&◌, eqb, List, map, length, get_or, sym, refl, ap, ◌∙◌, subst, ap₂, inl, inr, arith}
+use Rattle.std.proofs.Common.{◌≡◌, ℕ, zero, suc, ◌<◌, ◌≤◌, Bool, true, false, cond, ◌&&◌, List, map, length, get_or, sym, refl, ap, ◌∙◌, subst, ap₂, arith}
 use mathlib.Core.Path.{fun_ext}
 use native.Mathlib.Decide.{dec_lt}
 use Rattle.std.proofs.lemmas.List.{length-map, get_or-map}
@@ -9,7 +9,6 @@ use Rattle.cycle_space.specs.Moments.{Pipe, Moment, shape, weights, weight}
 use Rattle.cycle_space.specs.Bases.{Closed, Basis}
 use Rattle.cycle_space.specs.Supports.{Sound}
 use Rattle.cycle_space.specs.Rivals.{Links, SamePipes, how_many}
-use Rattle.cycle_space.proofs.Booleans.{add2_comm}
 use Rattle.cycle_space.proofs.Folds.{Comm, bits, numbers, fold_same}
 use Rattle.cycle_space.proofs.Counting.{Different, no_more}
 use Rattle.cycle_space.proofs.Linear.{picked, Space, Spans, Rings, Exchanged, Order, Joins}
@@ -65,8 +64,7 @@ module _ {M : Type 0} {zero' : M} {join : M → M → M} (g : Comm zero' join) (
   turns = record { within = p.to_in; apart = λ i j _ _ e. sym (p.back i) ∙ ap p.from e ∙ p.back j }
 
   links_match : (q r : Pipe M) (v : ℕ) → Links q.first q.second r → ends r.first r.second v ≡ ends q.first q.second v
-  links_match q r v (inl e) = ap₂ (λ a b. ends a b v) e.0 e.1
-  links_match q r v (inr e) = ap₂ (λ a b. ends a b v) e.0 e.1 ∙ add2_comm (eqb q.second v) (eqb q.first v)
+  links_match q r v l = grind arith
 
   carry_boundary : (x : ℕ → Bool) (v : ℕ) → boundary (shape n) (carry p.to x) v ≡ boundary (shape n') x v
   carry_boundary x v =

@@ -1,12 +1,15 @@
--- How many of the numbers below n pass a test. Assumes nothing.
-use Rattle.std.proofs.Common.{◌≡◌, ℕ, zero, suc, ◌+◌, ◌<◌, ◌≤◌, Bool, true, false, cond, eqb, ◌↔◌, sym, refl, ap, ◌∙◌, subst, arith}
+-- How many of the numbers below n pass a test, and choices for the numbers below k. Assumes nothing.
+use Rattle.std.proofs.Common.{◌≡◌, ℕ, zero, suc, ◌+◌, ◌<◌, ◌≤◌, Bool, true, false, cond, eqb, ◌↔◌, List, map, get_or, sym, refl, ap, ◌∙◌, subst, arith}
+use Rattle.std.specs.List.{range_with_len}
+use Rattle.std.proofs.lemmas.List.FromFn.{get_or-map-range_with_len}
+use Rattle.std.proofs.lemmas.Bool.{cond_both}
 use native.Mathlib.Decide.{dec_lt}
 use borrow.Author.Tests.{both_ways}
 use Rattle.std.proofs.lemmas.Bool.Decides.{nat_tests}
 use Rattle.cycle_space.specs.Sums.{fold, count}
 use Rattle.cycle_space.specs.Rows.{add2}
 use Rattle.cycle_space.specs.Shapes.{Exactly, none, one, other}
-use Rattle.cycle_space.proofs.Booleans.{by_eqb, eqb_same, not_so, add2_false}
+use Rattle.cycle_space.proofs.Booleans.{by_eqb}
 use Rattle.cycle_space.proofs.Folds.{numbers, fold_same, fold_none, fold_front}
 
 pub count_same : (n : ℕ) (u v : ℕ → Bool) → ((i : ℕ) → i < n → u i ≡ v i) → count n u ≡ count n v
@@ -54,14 +57,13 @@ pub count_at : (x : ℕ → Bool) (j : ℕ) → x j ≡ true → count (suc j) x
 unfolding fold
 count_at x j h = grind arith
 
+-- one that passes has fewer before it
+pub count_before : (x : ℕ → Bool) (n j : ℕ) → j < n → x j ≡ true → count j x < count n x
+count_before x n j l h = let one = count_at x j h in let up = count_up x (suc j) n l in omega arith
+
 -- two that pass, with equally many before them, are one
 pub count_same_place : (x : ℕ → Bool) (j l : ℕ) → x j ≡ true → x l ≡ true → count j x ≡ count l x → j ≡ l
-count_same_place x j l hj hl e =
-    let one = count_at x j hj in
-    let two = count_at x l hl in
-    let up = count_up x (suc j) l in
-    let down = count_up x (suc l) j in
-    grind arith
+count_same_place x j l hj hl e = let less = count_before x l j in let more = count_before x j l in grind arith
 
 -- the one that has i before it
 pub count_find : (x : ℕ → Bool) (m i : ℕ) → i < count m x → (j : ℕ) × (j < m) × (x j ≡ true) × (count j x ≡ i)
@@ -101,10 +103,8 @@ pub hits : (n : ℕ) (f : ℕ → ℕ) (k : ℕ) → Different k n f → count n
 hits n f zero d = fold_none numbers n (λ j. cond (hit f zero j) 1 0) (λ _ _. refl)
 hits n f (suc k) d =
     let new = fresh f k (f k) (λ i l q. let e = d.apart i k (omega arith) (omega arith) q in omega arith) in
-    let out = count_out n (hit f (suc k)) (f k) (d.within k (omega arith)) (ap (λ b. cond b true (hit f k (f k))) (eqb_same (f k))) in
-    let still : (j : ℕ) → flip (hit f (suc k)) (f k) j ≡ hit f k j =
-    λ j. by_eqb (λ t. add2 (cond t true (hit f k j)) t ≡ hit f k j) j (f k) (λ q. sym (ap (hit f k) q ∙ new)) (λ _. add2_false (hit f k j)) in
-    let rest = count_same n (flip (hit f (suc k)) (f k)) (hit f k) (λ j _. still j) in
+    let out = count_out n (hit f (suc k)) (f k) (d.within k (omega arith)) (grind (arith, nat_tests)) in
+    let rest = count_same n (flip (hit f (suc k)) (f k)) (hit f k) (λ j _. grind (arith, nat_tests)) in
     let ih = hits n f k (fewer d) in
     omega arith
 
@@ -122,26 +122,31 @@ choose (suc k) P g =
       λ i l. by_eqb (λ b. P i (cond b t.0 (r.0 i))) i k (λ q. subst (λ a. P a t.0) (sym q) t.1) (λ ne. r.1 i (omega arith)),
     )
 
+-- their list
+abbrev pub listed : {A : Type 0} → ℕ → (ℕ → A) → List A
+listed n s = map s (range_with_len 0 n)
+
+pub listed_at : {A : Type 0} (n : ℕ) (s : ℕ → A) (d : A) (i : ℕ) → i < n → get_or (listed n s) i d ≡ s i
+listed_at n s d i l = get_or-map-range_with_len s 0 n i i d l (omega arith)
+
 -- Where the test decides a predicate, exactly so many numbers are such
 
 module _ {Such : ℕ → Type 0} (x : ℕ → Bool) (decides : (i : ℕ) → (x i ≡ true) ↔ Such i) where
   pub exactly_count : (n : ℕ) → Exactly Such n (count n x)
   unfolding fold
   exactly_count zero = none refl refl
-  exactly_count (suc n) = go (x n) refl (exactly_count n)
-    where
-      go : (b : Bool) → x n ≡ b → Exactly Such n (count n x) → Exactly Such (suc n) (cond b 1 0 + count n x)
-      go true e r = one n (count n x) refl (omega arith) ((decides n).0 e) r
-      go false e r = other n refl (λ s. both_ways (x n) e ((decides n).1 s)) (subst (Exactly Such n) (omega arith) r)
+  exactly_count (suc n) =
+      let r = exactly_count n in
+      cond_both (x n) 1 0 (λ c. Exactly Such (suc n) (c + count n x)) (λ e. one n (count n x) refl (omega arith) ((decides n).0 e) r)
+      (λ e. other n refl (λ s. both_ways (x n) e ((decides n).1 s)) (subst (Exactly Such n) (omega arith) r))
 
   pub count_exactly : (n k : ℕ) → Exactly Such n k → k ≡ count n x
   unfolding fold
   count_exactly n k (none e q) = q ∙ ap (λ m. count m x) (sym e)
   count_exactly n k (one m l e q s r) =
-      let ih = count_exactly m l r in
-      q ∙ ap suc ih ∙ (omega arith) ∙ sym (ap (λ b. cond b 1 0 + count m x) ((decides m).1 s)) ∙ ap (λ m. count m x) (sym e)
+      let ih = count_exactly m l r in let at = (decides m).1 s in grind arith
   count_exactly n k (other m e isnt r) =
-      count_exactly m k r ∙ (omega arith) ∙ sym (ap (λ b. cond b 1 0 + count m x) (not_so (x m) (λ q. isnt ((decides m).0 q)))) ∙ ap (λ m. count m x) (sym e)
+      let ih = count_exactly m k r in let at = (decides m).0 in grind arith
 
 -- All of them, and one that is left
 

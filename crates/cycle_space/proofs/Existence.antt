@@ -1,18 +1,20 @@
 -- Sound rings exist, as many as there are closing pipes, and are a basis, so what is proved of rings is proved of something; and every basis has as many members. Assumes nothing.
 use Rattle.std.proofs.Common.{◌≡◌, ℕ, zero, suc, ◌≤◌, Bool, true, false, cond, ◌&&◌, ltb, List, length, get_or, sym, refl, ◌∙◌, subst, arith}
+use Rattle.std.proofs.lemmas.List.FromFn.{length-map-range_with_len}
 use Rattle.std.proofs.lemmas.Bool.Decides.{nat_tests}
 use native.Mathlib.Decide.{dec_lt}
 use Rattle.cycle_space.specs.Rows.{Row, bit, holds, empty, sum, odd}
 use Rattle.cycle_space.specs.Shapes.{Shape, Due}
 use Rattle.cycle_space.specs.Bases.{Basis}
 use Rattle.cycle_space.specs.Supports.{rank, alone, Sound, Extended, BasesExist, ClosingPipesTell, BasesHaveDueSize}
+use Rattle.cycle_space.proofs.Counting.{listed, listed_at}
 use Rattle.cycle_space.proofs.Bases.{put}
 use Rattle.cycle_space.proofs.Exchanges.{kept, put_at, exchange}
 use Rattle.cycle_space.proofs.Counts.{same_size}
 use Rattle.cycle_space.proofs.Due.{due_rank}
 use Rattle.cycle_space.proofs.Bits.{known_by_pipes, empty_bit, empty_row}
 use Rattle.cycle_space.proofs.Closings.{separation}
-use Rattle.cycle_space.proofs.Spaces.{odd_adds, space, of_row, to_spans, listed, listed_length, listed_at}
+use Rattle.cycle_space.proofs.Spaces.{odd_adds, space, of_row, to_spans}
 use Rattle.cycle_space.proofs.Supports.{due_ring, sound_rings}
 use Rattle.cycle_space.proofs.Keeping.{sound_alone, sound_next}
 use Rattle.cycle_space.proofs.Props.{as_rings}
@@ -50,7 +52,7 @@ pub sound_bases_exist : (N : Shape) → N.pipes ≤ 256
 sound_bases_exist N few =
     let r = reach N few (rank N) (omega arith) in
     let rows : List Row = listed (rank N) r.0 in
-    let long : length rows ≡ rank N = listed_length (rank N) r.0 in
+    let long : length rows ≡ rank N = length-map-range_with_len r.0 0 (rank N) in
     let s : Sound N (length rows) (λ i. get_or rows i empty) r.1 =
     subst (λ k. Sound N k (λ i. get_or rows i empty) r.1) (sym long) (as_rings (λ i l. sym (listed_at (rank N) r.0 empty i l)) r.2) in
     (rows, r.1, long, s, basis_when_full N rows r.1 s long)

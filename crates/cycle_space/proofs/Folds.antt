@@ -82,6 +82,13 @@ sum_lone n i c h =
     fold_same bits n (λ j. eqb j i && c j) (λ j. cond (eqb j i) (c i) false) (λ j _. grind (arith, nat_tests))
     ∙ fold_lone bits n i (c i) h
 
+-- products with one s add up
+pub dot_add : (n : ℕ) (s x y : ℕ → Bool)
+    → fold false add2 n (λ j. s j && add2 (x j) (y j)) ≡ add2 (fold false add2 n (λ j. s j && x j)) (fold false add2 n (λ j. s j && y j))
+dot_add n s x y =
+    fold_same bits n (λ j. s j && add2 (x j) (y j)) (λ j. add2 (s j && x j) (s j && y j)) (λ j _. grind arith)
+    ∙ fold_two bits n (λ j. s j && x j) (λ j. s j && y j)
+
 -- a sum that is true has a value that is true
 pub sum_find : (n : ℕ) (u : ℕ → Bool) → fold false add2 n u ≡ true → (i : ℕ) × (i < n) × (u i ≡ true)
 unfolding fold

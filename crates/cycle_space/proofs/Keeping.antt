@@ -14,8 +14,7 @@ use Rattle.cycle_space.proofs.Bits.{known_by_pipes, row_of_words, row_bit, bit_p
 use Rattle.cycle_space.proofs.Singles.{single_bit}
 use Rattle.cycle_space.proofs.Parities.{parity_laws}
 use Rattle.cycle_space.proofs.Labels.{closing_decided}
-use Rattle.cycle_space.proofs.Counting.{count_same_place, exactly_count, count_exactly}
-use Rattle.cycle_space.proofs.Supports.{below_rank}
+use Rattle.cycle_space.proofs.Counting.{count_before, count_same_place, exactly_count, count_exactly}
 
 -- Closing pipes alone
 
@@ -65,7 +64,7 @@ alone_past N few i h = known_by_pipes (alone N i) empty (alone_words N i) empty_
     same : (l : ℕ) → holds (alone N i) l ≡ holds empty l
     same zero = refl
     same (suc l) =
-        not_so (bit (alone N i) l) (λ b. let a = alone_in N few i l b in let r = below_rank N l a.0 a.1 in let e = a.2 in omega arith)
+        not_so (bit (alone N i) l) (λ b. let a = alone_in N few i l b in let r = count_before (closes N) N.pipes l a.0 a.1 in let e = a.2 in omega arith)
         ∙ sym (empty_bit l)
 
 pub sound_alone : (N : Shape) (ring : ℕ → Row) → N.pipes ≤ 256 → Sound N 0 ring (alone N)
@@ -214,7 +213,7 @@ module _ (N : Shape) (k : ℕ) (ring support : ℕ → Row) (s : Sound N k ring 
     few_pipes = s.few_pipes;
     not_over = kr;
     of_pipes = of_pipes';
-    own = λ j l cj. own' j l cj (below_rank N j l cj);
+    own = λ j l cj. own' j l cj (count_before (closes N) N.pipes j l cj);
     lower = lower';
     closed = λ i l. by_eqb (λ _. Closed N (ring' i)) i k
         (λ q. subst (Closed N) (sym (ap ring' q ∙ new)) cc) (λ ne. subst (Closed N) (sym (old i (omega arith))) (s.closed i (omega arith)));

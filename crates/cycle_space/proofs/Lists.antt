@@ -1,5 +1,7 @@
 -- Rings and rivals as lists of rows: full lists are bases, the exchange, the joined weight, the counts. Assumes nothing.
 use Rattle.std.proofs.Common.{◌≡◌, ℕ, zero, suc, ◌+◌, ◌<◌, Bool, true, cond, List, [], ◌∷◌, map, length, get_or, sym, refl, ap, ◌∙◌, subst, ap₂, inl, inr, arith}
+use Rattle.std.proofs.lemmas.List.FromFn.{length-map-range_with_len}
+use Rattle.std.proofs.lemmas.Bool.Decides.{nat_tests}
 use mathlib.Core.Path.{fun_ext}
 use Rattle.std.proofs.lemmas.List.{length-set, get_or-set_same, get_or-set_other}
 use Rattle.cycle_space.specs.Sums.{fold, count}
@@ -9,13 +11,12 @@ use Rattle.cycle_space.specs.Moments.{Moment, shape, weight}
 use Rattle.cycle_space.specs.Bases.{Closed, Basis}
 use Rattle.cycle_space.specs.Supports.{rank, Sound}
 use Rattle.cycle_space.specs.Rivals.{joined_weight, exchanged, Exchanges, how_many}
-use Rattle.cycle_space.proofs.Booleans.{by_eqb}
 use Rattle.cycle_space.proofs.Folds.{numbers, fold_front}
-use Rattle.cycle_space.proofs.Counting.{Different}
+use Rattle.cycle_space.proofs.Counting.{Different, listed, listed_at}
 use Rattle.cycle_space.proofs.Linear.{Spans, Rings, replaced, Exchanged, Joins}
 use Rattle.cycle_space.proofs.Exchanges.{origin, exchange}
 use Rattle.cycle_space.proofs.Counts.{same_size, lighter}
-use Rattle.cycle_space.proofs.Spaces.{none, xors, Cycle, odd_sets, odd_adds, space, row_back, to_spans, from_spans, listed, listed_length, listed_at}
+use Rattle.cycle_space.proofs.Spaces.{none, xors, Cycle, odd_sets, odd_adds, space, row_back, to_spans, from_spans}
 use Rattle.cycle_space.proofs.Supports.{sound_rings, not_yet, full}
 
 -- The exchanged list
@@ -115,16 +116,14 @@ module _ {M : Type 0} {zero' : M} {join : M → M → M} {within : M → M → B
           ps = listed (length ours) f
 
           long : length ps ≡ length ours
-          long = listed_length (length ours) f
+          long = length-map-range_with_len f 0 (length ours)
 
           at : (i : ℕ) → i < length ours → get_or ps i 0 ≡ f i
           at i l = listed_at (length ours) f 0 i l
 
       bit_replaced : (f : ℕ → ℕ) (k j : ℕ) → bit (replaced (λ i. get_or rival i empty) (λ i. get_or ours i empty) f k j) ≡ replaced (λ i. bit (get_or rival i empty)) (λ i. bit (get_or ours i empty)) f k j
       bit_replaced f zero j = refl
-      bit_replaced f (suc k) j =
-          by_eqb (λ t. bit (cond t (get_or ours k empty) (replaced (λ i. get_or rival i empty) (λ i. get_or ours i empty) f k j)) ≡ cond t (bit (get_or ours k empty)) (replaced (λ i. bit (get_or rival i empty)) (λ i. bit (get_or ours i empty)) f k j)) j (f k)
-          (λ _. refl) (λ _. bit_replaced f k j)
+      bit_replaced f (suc k) j = let r = bit_replaced f k j in grind (arith, nat_tests)
 
       closed_place : (f : ℕ → ℕ) → Swap f → (j : ℕ) → j < length rival → Closed (shape n) (replaced (λ i. get_or rival i empty) (λ i. get_or ours i empty) f (length ours) j)
       closed_place f ex j l =
@@ -138,7 +137,7 @@ module _ {M : Type 0} {zero' : M} {join : M → M → M} {within : M → M → B
           let f = swap.0 in
           let ex = swap.1 in
           let ps : List ℕ = listed (length ours) f in
-          let long : length ps ≡ length ours = listed_length (length ours) f in
+          let long : length ps ≡ length ours = length-map-range_with_len f 0 (length ours) in
           let at : (i : ℕ) → i < length ours → get_or ps i 0 ≡ f i = λ i l. listed_at (length ours) f 0 i l in
           let new : List Row = exchanged rival ps ours in
           let size : length new ≡ length rival = exchanged_length rival ps ours in

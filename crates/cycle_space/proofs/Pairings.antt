@@ -1,5 +1,6 @@
 -- Two lists with the same pipes are paired, pipe for pipe. Assumes nothing.
 use Rattle.std.proofs.Common.{◌≡◌, ℕ, zero, suc, ◌+◌, ◌<◌, ◌⊎◌, ◌↔◌, List, [], ◌∷◌, length, get_or, sym, refl, ap, ◌∙◌, subst, inl, inr, arith}
+use mathlib.Core.Logic.Dec.{and}
 use native.Mathlib.Decide.{ℕ_discrete}
 use Rattle.cycle_space.specs.Moments.{Pipe}
 use Rattle.cycle_space.specs.Rivals.{Links, Between, none, one, other}
@@ -13,20 +14,10 @@ match_same : {M : Type 0} (p : Pipe M) → Match p p
 match_same p = record { links = inl (refl, refl); weighs = refl }
 
 links_along : {M : Type 0} (p q : Pipe M) (u v : ℕ) → Match p q → Links u v p → Links u v q
-links_along p q u v m e = go m.links e
-  where
-    go : Links p.first p.second q → Links u v p → Links u v q
-    go (inl a) (inl b) = inl (a.0 ∙ b.0, a.1 ∙ b.1)
-    go (inl a) (inr b) = inr (a.0 ∙ b.0, a.1 ∙ b.1)
-    go (inr a) (inl b) = inr (a.0 ∙ b.1, a.1 ∙ b.0)
-    go (inr a) (inr b) = inl (a.0 ∙ b.1, a.1 ∙ b.0)
+links_along p q u v m e = let l = m.links in grind arith
 
 pub match_back : {M : Type 0} (p q : Pipe M) → Match p q → Match q p
-match_back p q m = record { links = go m.links; weighs = sym m.weighs }
-  where
-    go : Links p.first p.second q → Links q.first q.second p
-    go (inl a) = inl (sym a.0, sym a.1)
-    go (inr a) = inr (sym a.1, sym a.0)
+match_back p q m = record { links = let l = m.links in grind arith; weighs = sym m.weighs }
 
 match_then : {M : Type 0} (p q r : Pipe M) → Match p q → Match q r → Match p r
 match_then p q r m n = record { links = links_along q r p.first p.second n m.links; weighs = n.weighs ∙ m.weighs }
@@ -161,11 +152,6 @@ module _ {M : Type 0} (d : Pipe M) where
     abbrev Such : ℕ → ℕ → M → Pipe M → Type 0
     Such u v w p = Links u v p × (p.weight ≡ w)
 
-    two : (A B : Type 0) → Dec A → Dec B → Dec (A × B)
-    two A B (yes a) (yes b) = yes (a, b)
-    two A B (yes a) (no b) = no (λ p. b p.1)
-    two A B (no a) b = no (λ p. a p.0)
-
     either : (A B : Type 0) → Dec A → Dec B → Dec (A ⊎ B)
     either A B (yes a) b = yes (inl a)
     either A B (no a) (yes b) = yes (inr b)
@@ -173,10 +159,9 @@ module _ {M : Type 0} (d : Pipe M) where
 
     such : (u v : ℕ) (w : M) (p : Pipe M) → Dec (Such u v w p)
     such u v w p =
-        two (Links u v p) (p.weight ≡ w)
+        and
         (either ((p.first ≡ u) × (p.second ≡ v)) ((p.first ≡ v) × (p.second ≡ u))
-        (two (p.first ≡ u) (p.second ≡ v) (ℕ_discrete p.first u) (ℕ_discrete p.second v))
-        (two (p.first ≡ v) (p.second ≡ u) (ℕ_discrete p.first v) (ℕ_discrete p.second u)))
+        (and (ℕ_discrete p.first u) (ℕ_discrete p.second v)) (and (ℕ_discrete p.first v) (ℕ_discrete p.second u)))
         (same p.weight w)
 
     abbrev tick : {A : Type 0} → Dec A → ℕ

@@ -9,16 +9,12 @@ use Rattle.cycle_space.specs.Labels.{closes}
 use Rattle.cycle_space.specs.Bases.{Closed}
 use Rattle.cycle_space.specs.Supports.{rank, before, Sound}
 use Rattle.cycle_space.proofs.Booleans.{not_so}
-use Rattle.cycle_space.proofs.Counting.{count_up, count_at, count_same_place, count_find}
+use Rattle.cycle_space.proofs.Counting.{count_before, count_same_place, count_find}
 use Rattle.cycle_space.proofs.Labels.{closing_decided}
 use Rattle.cycle_space.proofs.Linear.{Spans, Rings}
 use Rattle.cycle_space.proofs.Triangular.{missed, ring_basis}
 use Rattle.cycle_space.proofs.Closings.{separation, fundamental}
 use Rattle.cycle_space.proofs.Spaces.{none, xors, Cycle, odd_sets, odd_bits, odd_adds, odd_one, space, of_row, to_row, bits_back, row_back}
-
--- the supports are numbered below the rank
-pub below_rank : (N : Shape) (j : ℕ) → j < N.pipes → closes N j ≡ true → before N j < rank N
-below_rank N j l c = let one = count_at (closes N) j c in let up = count_up (closes N) (suc j) N.pipes l in omega arith
 
 module _ (N : Shape) (k : ℕ) (ring support : ℕ → Row) (s : Sound N k ring support) where
   in_net : (x : ℕ → Bool) → Cycle N x → (j : ℕ) → x j ≡ true → j < N.pipes
@@ -32,12 +28,12 @@ module _ (N : Shape) (k : ℕ) (ring support : ℕ → Row) (s : Sound N k ring 
       sym (ap (λ t. t && x j) (s.own j l cj))
       ∙ sym (odd_one (bit (support (before N j))) x j (let few = s.few_pipes in omega arith)
       (λ i si xi.
-      let low = s.lower (before N j) i (below_rank N j l cj) si in
+      let low = s.lower (before N j) i (count_before (closes N) N.pipes j l cj) si in
       elim (dec_lt (before N i) (before N j)) [
         | yes less ↦ absurd (both_ways (x i) (none_closing x c h b i (omega arith) (in_net x c i xi) low.0) xi)
         | no more ↦ count_same_place (closes N) i j low.0 cj (omega (arith, low.1))
       ]))
-      ∙ h (before N j) (below_rank N j l cj)
+      ∙ h (before N j) (count_before (closes N) N.pipes j l cj)
 
   -- the empty set alone is even against all supports
   pub separated : (x : ℕ → Bool) → Cycle N x → ((i : ℕ) → i < rank N → odd_sets (bit (support i)) x ≡ false) → x ≡ none

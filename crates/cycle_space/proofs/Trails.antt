@@ -7,8 +7,8 @@ use Rattle.cycle_space.specs.Sums.{fold, count}
 use Rattle.cycle_space.specs.Rows.{Row, bit, add2}
 use Rattle.cycle_space.specs.Shapes.{Shape, Crosses, Run, stay, cross}
 use Rattle.cycle_space.specs.Bases.{touching}
-use Rattle.cycle_space.proofs.Booleans.{by_eqb, eqb_same, add2_same, add2_false, add2_comm, add2_assoc, add2_and, and_add2, and_comm}
-use Rattle.cycle_space.proofs.Folds.{bits, fold_same, fold_two, fold_none, sum_lone, sum_find}
+use Rattle.cycle_space.proofs.Booleans.{by_eqb, eqb_same, add2_same, add2_false, add2_comm, add2_assoc, add2_and, and_comm}
+use Rattle.cycle_space.proofs.Folds.{bits, fold_same, fold_two, fold_none, sum_lone, dot_add, sum_find}
 use Rattle.cycle_space.proofs.Counting.{flip, count_less, count_out}
 
 -- w is exactly one of s and t
@@ -88,8 +88,7 @@ pub ends_same : (s t : ℕ) → s ≡ t → (w : ℕ) → ends s t w ≡ false
 ends_same s t q w = ap (λ u. ends u t w) q ∙ add2_same (eqb t w)
 
 pub ends_cross : (N : Shape) (j s u : ℕ) → Crosses N j s u → (w : ℕ) → ends (N.first j) (N.second j) w ≡ ends s u w
-ends_cross N j s u (inl p) w = ap₂ (λ k l. ends k l w) p.0 p.1
-ends_cross N j s u (inr p) w = ap₂ (λ k l. ends k l w) p.1 p.0 ∙ add2_comm (eqb u w) (eqb s w)
+ends_cross N j s u c w = grind arith
 
 crossing : (N : Shape) (j s : ℕ) → ends (N.first j) (N.second j) s ≡ true → (u : ℕ) × Crosses N j s u
 crossing N j s h =
@@ -189,20 +188,15 @@ opened N x h j l w = bd_flip N x j l w ∙ ap (λ c. add2 c (ends (N.first j) (N
 
 -- Odd rings
 
-odd_add : (N : Shape) (S x y : ℕ → Bool) → odd_in N S (λ i. add2 (x i) (y i)) ≡ add2 (odd_in N S x) (odd_in N S y)
-odd_add N S x y =
-    fold_same bits N.pipes (λ j. S j && add2 (x j) (y j)) (λ j. add2 (S j && x j) (S j && y j)) (λ i _. and_add2 (S i) (x i) (y i))
-    ∙ fold_two bits N.pipes (λ j. S j && x j) (λ j. S j && y j)
-
 odd_one : (N : Shape) (S : ℕ → Bool) (j : ℕ) → j < N.pipes → odd_in N S (λ i. eqb i j) ≡ S j
 odd_one N S j l = fold_same bits N.pipes (λ i. S i && eqb i j) (λ i. eqb i j && S i) (λ i _. and_comm (S i) (eqb i j)) ∙ sum_lone N.pipes j S l
 
 pub odd_flip : (N : Shape) (S x : ℕ → Bool) (j : ℕ) → j < N.pipes → odd_in N S (flip x j) ≡ add2 (odd_in N S x) (S j)
-odd_flip N S x j l = odd_add N S x (λ i. eqb i j) ∙ ap (add2 (odd_in N S x)) (odd_one N S j l)
+odd_flip N S x j l = dot_add N.pipes S x (λ i. eqb i j) ∙ ap (add2 (odd_in N S x)) (odd_one N S j l)
 
 pub odd_tally : (N : Shape) (S : ℕ → Bool) (ps : List ℕ) → Every (λ j. j < N.pipes) ps → odd_in N S (tally ps) ≡ parity S ps
 odd_tally N S [] e = fold_none bits N.pipes (λ j. S j && false) (λ j _. and_comm (S j) false)
-odd_tally N S (j ∷ ps) e = odd_add N S (λ i. eqb i j) (tally ps) ∙ ap₂ add2 (odd_one N S j e.0) (odd_tally N S ps e.1)
+odd_tally N S (j ∷ ps) e = dot_add N.pipes S (λ i. eqb i j) (tally ps) ∙ ap₂ add2 (odd_one N S j e.0) (odd_tally N S ps e.1)
 
 -- what is left of x without pipes of x is in x
 left_in : (N : Shape) (x : ℕ → Bool) (ps : List ℕ) → Every (Inside N x) ps → (i : ℕ) → add2 (x i) (tally ps i) ≡ true → x i ≡ true
@@ -250,7 +244,7 @@ first N S x h o =
       closed = f.4;
       less = omega arith;
       part = λ i k. (flip_in x e i xe (left_in N (flip x e) f.0 f.2 i k)).0;
-      left = odd_add N S (flip x e) (tally f.0)
+      left = dot_add N.pipes S (flip x e) (tally f.0)
           ∙ ap₂ add2 (odd_flip N S x e l ∙ ap (λ c. add2 c (S e)) o) (odd_tally N S f.0 (every_map (Inside N (flip x e)) (λ j. j < N.pipes) (λ j k. k.0) f.0 f.2))
           ∙ add2_assoc true (S e) (parity S f.0);
     }
