@@ -50,11 +50,14 @@ pub holds_past : (r : Row) → length r ≡ 4 → (j : ℕ) → 256 < j → hold
 holds_past r l zero h = absurd (omega arith)
 holds_past r l (suc j) h = bit_past r l j (omega arith)
 
-pub known_by_pipes : KnownByPipes
-known_by_pipes x y wx wy h =
+pub known_by_bits : (x y : Row) → FourWords x → FourWords y → ((j : ℕ) → j < 256 → bit x j ≡ bit y j) → x ≡ y
+known_by_bits x y wx wy h =
     ext_get_or 0 x y (wx.four ∙ sym wy.four)
-    (λ q _. word_known 64 (get_or x q 0) (get_or y q 0) (wx.words q) (wy.words q)
-    (λ j l. sym (bit_of_word x q j l) ∙ h (suc (64 * q + j)) ∙ bit_of_word y q j l))
+    (λ q l. word_known 64 (get_or x q 0) (get_or y q 0) (wx.words q) (wy.words q)
+    (λ j m. sym (bit_of_word x q j m) ∙ h (64 * q + j) (let four = wx.four in omega arith) ∙ bit_of_word y q j m))
+
+pub known_by_pipes : KnownByPipes
+known_by_pipes x y wx wy h = known_by_bits x y wx wy (λ j _. h (suc j))
 
 -- The row of given bits
 
@@ -94,16 +97,16 @@ row_bit f j l = go (j / 64) refl
     go (suc (suc (suc zero))) e = word_bit 64 (λ j. f (192 + j)) (j % 64) (omega arith) ∙ ap f (omega arith)
     go (suc (suc (suc (suc q)))) e = absurd (omega arith)
 
+-- where no bit past the row is set
+pub row_bits : (f : ℕ → Bool) → ((j : ℕ) → 256 ≤ j → f j ≡ false) → (j : ℕ) → bit (row_of f) j ≡ f j
+row_bits f h j = elim (dec_lt j 256) [
+  | yes l ↦ row_bit f j l
+  | no l ↦ bit_past (row_of f) (row_of_words f).four j (omega arith) ∙ sym (h j (omega arith))
+]
+
 -- a row is the row of its bits
 pub row_of_bits : (r : Row) → FourWords r → row_of (bit r) ≡ r
-row_of_bits r w = known_by_pipes (row_of (bit r)) r (row_of_words (bit r)) w each
-  where
-    each : (j : ℕ) → holds (row_of (bit r)) j ≡ holds r j
-    each zero = refl
-    each (suc j) = elim (dec_lt j 256) [
-      | yes l ↦ row_bit (bit r) j l
-      | no l ↦ bit_past (row_of (bit r)) (row_of_words (bit r)).four j (omega arith) ∙ sym (bit_past r w.four j (omega arith))
-    ]
+row_of_bits r w = known_by_bits (row_of (bit r)) r (row_of_words (bit r)) w (row_bit (bit r))
 
 -- The empty set
 

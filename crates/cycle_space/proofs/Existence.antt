@@ -1,9 +1,9 @@
 -- Sound rings exist, as many as there are closing pipes, and are a basis, so what is proved of rings is proved of something; and every basis has as many members. Assumes nothing.
-use Rattle.std.proofs.Common.{◌≡◌, ℕ, zero, suc, ◌≤◌, Bool, true, false, cond, ◌&&◌, ltb, List, length, get_or, sym, refl, ◌∙◌, subst, arith}
+use Rattle.std.proofs.Common.{◌≡◌, ℕ, zero, suc, ◌≤◌, Bool, true, cond, ◌&&◌, ltb, List, length, get_or, sym, refl, ◌∙◌, subst, arith}
 use Rattle.std.proofs.lemmas.List.FromFn.{length-map-range_with_len}
 use Rattle.std.proofs.lemmas.Bool.Decides.{nat_tests}
 use native.Mathlib.Decide.{dec_lt}
-use Rattle.cycle_space.specs.Rows.{Row, bit, holds, empty, sum, odd}
+use Rattle.cycle_space.specs.Rows.{Row, bit, empty, sum, odd}
 use Rattle.cycle_space.specs.Shapes.{Shape, Due}
 use Rattle.cycle_space.specs.Bases.{Basis}
 use Rattle.cycle_space.specs.Supports.{rank, alone, Sound, Extended, BasesExist, ClosingPipesTell, BasesHaveDueSize}
@@ -12,7 +12,7 @@ use Rattle.cycle_space.proofs.Bases.{put}
 use Rattle.cycle_space.proofs.Exchanges.{kept, put_at, exchange}
 use Rattle.cycle_space.proofs.Counts.{same_size}
 use Rattle.cycle_space.proofs.Due.{due_rank}
-use Rattle.cycle_space.proofs.Bits.{known_by_pipes, empty_bit, empty_row}
+use Rattle.cycle_space.proofs.Bits.{known_by_bits, empty_bit, empty_row}
 use Rattle.cycle_space.proofs.Closings.{separation}
 use Rattle.cycle_space.proofs.Spaces.{odd_adds, space, of_row, to_spans}
 use Rattle.cycle_space.proofs.Supports.{due_ring, sound_rings}
@@ -63,12 +63,8 @@ bases_exist N few = let r = sound_bases_exist N few in (r.0, r.2, r.4)
 pub closing_pipes_tell : ClosingPipesTell
 closing_pipes_tell N few x c h =
     let cycle = of_row N x c in
-    known_by_pipes x empty c.of_pipes.words empty_row
-    (λ j. same (λ i. elim (dec_lt i N.pipes) [ yes l ↦ separation N (bit x) cycle.closed h i l | no l ↦ cycle.bounded i (omega arith) ]) j)
-  where
-    same : ((i : ℕ) → bit x i ≡ false) → (j : ℕ) → holds x j ≡ holds empty j
-    same e zero = refl
-    same e (suc j) = e j ∙ sym (empty_bit j)
+    known_by_bits x empty c.of_pipes.words empty_row
+    (λ j _. elim (dec_lt j N.pipes) [ yes l ↦ separation N (bit x) cycle.closed h j l | no l ↦ cycle.bounded j (omega arith) ] ∙ sym (empty_bit j))
 
 -- the rings of a sound list can be exchanged into any basis, so both have one size
 pub bases_have_due_size : BasesHaveDueSize

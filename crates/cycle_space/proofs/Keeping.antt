@@ -1,16 +1,15 @@
 -- How rings and supports stay sound: before the first ring, with another number of nodes, with one more ring. Assumes nothing.
-use Rattle.std.proofs.Common.{◌≡◌, ℕ, zero, suc, ◌+◌, ◌%◌, ◌<◌, ◌≤◌, Bool, true, false, cond, ◌&&◌, eqb, ltb, length, sym, refl, ap, ◌∙◌, subst, ap₂, inl, inr, arith, le-ltb}
+use Rattle.std.proofs.Common.{◌≡◌, ℕ, zero, suc, ◌%◌, ◌<◌, ◌≤◌, Bool, true, false, ◌&&◌, eqb, ltb, length, sym, refl, ap, ◌∙◌, subst, ap₂, inl, inr, arith}
 use Rattle.std.proofs.lemmas.Bool.Decides.{nat_tests}
-use mathlib.Core.Path.{fun_ext}
 use native.Mathlib.Decide.{dec_lt}
 use Rattle.cycle_space.specs.Sums.{count}
 use Rattle.cycle_space.specs.Rows.{Row, bit, holds, empty, FourWords, row_of, add2, sum, odd}
 use Rattle.cycle_space.specs.Shapes.{Shape, Closing, Exactly}
-use Rattle.cycle_space.specs.Labels.{relabel, label, closes}
+use Rattle.cycle_space.specs.Labels.{closes}
 use Rattle.cycle_space.specs.Bases.{OfPipes, touching, Closed}
 use Rattle.cycle_space.specs.Supports.{rank, before, alone, Sound, Extended, AloneHolds}
 use Rattle.cycle_space.proofs.Booleans.{by_eqb, not_so, either}
-use Rattle.cycle_space.proofs.Bits.{known_by_pipes, row_of_words, row_bit, bit_past, empty_bit, empty_row, sum_bit, sum_holds, sum_row}
+use Rattle.cycle_space.proofs.Bits.{known_by_bits, row_of_words, row_bits, empty_bit, empty_row, sum_bit, sum_holds, sum_row}
 use Rattle.cycle_space.proofs.Singles.{single_bit}
 use Rattle.cycle_space.proofs.Parities.{parity_laws}
 use Rattle.cycle_space.proofs.Labels.{closing_decided}
@@ -18,16 +17,13 @@ use Rattle.cycle_space.proofs.Counting.{count_before, count_same_place, exactly_
 
 -- Closing pipes alone
 
-pub alone_words : (N : Shape) (i : ℕ) → FourWords (alone N i)
+alone_words : (N : Shape) (i : ℕ) → FourWords (alone N i)
 unfolding alone
 alone_words N i = row_of_words (λ j. ltb j N.pipes && (closes N j && eqb (before N j) i))
 
-pub alone_bit : (N : Shape) → N.pipes ≤ 256 → (i j : ℕ) → bit (alone N i) j ≡ (ltb j N.pipes && (closes N j && eqb (before N j) i))
+alone_bit : (N : Shape) → N.pipes ≤ 256 → (i j : ℕ) → bit (alone N i) j ≡ (ltb j N.pipes && (closes N j && eqb (before N j) i))
 unfolding alone
-alone_bit N few i j = elim (dec_lt j 256) [
-  | yes l ↦ row_bit (λ j. ltb j N.pipes && (closes N j && eqb (before N j) i)) j l
-  | no l ↦ bit_past (alone N i) (alone_words N i).four j (omega arith) ∙ sym (ap (λ b. b && (closes N j && eqb (before N j) i)) (le-ltb j N.pipes (omega arith)))
-]
+alone_bit N few i j = row_bits (λ j. ltb j N.pipes && (closes N j && eqb (before N j) i)) (λ j l. grind (arith, nat_tests)) j
 
 -- what is in such a row
 alone_in : (N : Shape) → N.pipes ≤ 256 → (i j : ℕ) → bit (alone N i) j ≡ true → (j < N.pipes) × (closes N j ≡ true) × (before N j ≡ i)
@@ -47,25 +43,21 @@ alone_holds N few i j = (
 
 -- the row of a closing pipe, and no row past the last of them
 pub alone_single : (N : Shape) → N.pipes ≤ 256 → (j : ℕ) → j < N.pipes → closes N j ≡ true → row_of (λ l. eqb (suc l) (suc j)) ≡ alone N (before N j)
-alone_single N few j lj cj = known_by_pipes (row_of f) (alone N (before N j)) (row_of_words f) (alone_words N (before N j)) same
+alone_single N few j lj cj =
+    known_by_bits (row_of f) (alone N (before N j)) (row_of_words f) (alone_words N (before N j))
+    (λ l _.
+    let here = in_alone N few (before N j) j lj cj refl in
+    let other = alone_in N few (before N j) l in
+    let one = count_same_place (closes N) l j in
+    single_bit j l (omega arith) ∙ grind (arith, nat_tests))
   where
     f : ℕ → Bool
     f l = eqb (suc l) (suc j)
 
-    same : (l : ℕ) → holds (row_of f) l ≡ holds (alone N (before N j)) l
-    same zero = refl
-    same (suc l) = single_bit j l (omega arith) ∙ by_eqb (λ t. t ≡ bit (alone N (before N j)) l) l j
-        (λ q. sym (subst (λ i. bit (alone N (before N j)) i ≡ true) (sym q) (in_alone N few (before N j) j lj cj refl)))
-        (λ ne. sym (not_so (bit (alone N (before N j)) l) (λ h. let a = alone_in N few (before N j) l h in ne (count_same_place (closes N) l j a.1 cj a.2))))
-
 pub alone_past : (N : Shape) → N.pipes ≤ 256 → (i : ℕ) → rank N ≤ i → alone N i ≡ empty
-alone_past N few i h = known_by_pipes (alone N i) empty (alone_words N i) empty_row same
-  where
-    same : (l : ℕ) → holds (alone N i) l ≡ holds empty l
-    same zero = refl
-    same (suc l) =
-        not_so (bit (alone N i) l) (λ b. let a = alone_in N few i l b in let r = count_before (closes N) N.pipes l a.0 a.1 in let e = a.2 in omega arith)
-        ∙ sym (empty_bit l)
+alone_past N few i h =
+    known_by_bits (alone N i) empty (alone_words N i) empty_row
+    (λ l _. let r = alone_in N few i l in let low = count_before (closes N) N.pipes l in let e = empty_bit l in grind arith)
 
 pub sound_alone : (N : Shape) (ring : ℕ → Row) → N.pipes ≤ 256 → Sound N 0 ring (alone N)
 sound_alone N ring few = record {
@@ -85,16 +77,9 @@ sound_alone N ring few = record {
 
 -- Another number of nodes
 
-label_same : (N N' : Shape) → N.first ≡ N'.first → N.second ≡ N'.second → (k v : ℕ) → label N k v ≡ label N' k v
-label_same N N' p q zero v = refl
-label_same N N' p q (suc k) v =
-    ap₂ (λ x y. relabel x y (label N k v)) (label_same N N' p q k (N.first k) ∙ ap (λ f. label N' k (f k)) p) (label_same N N' p q k (N.second k) ∙ ap (λ f. label N' k (f k)) q)
-    ∙ ap (relabel (label N' k (N'.first k)) (label N' k (N'.second k))) (label_same N N' p q k v)
-
 -- which pipes are closing, is seen from their ends
-pub closes_same : (N N' : Shape) → N.first ≡ N'.first → N.second ≡ N'.second → closes N ≡ closes N'
-closes_same N N' p q =
-    fun_ext (λ j. ap₂ eqb (label_same N N' p q j (N.first j) ∙ ap (λ f. label N' j (f j)) p) (label_same N N' p q j (N.second j) ∙ ap (λ f. label N' j (f j)) q))
+closes_same : (N N' : Shape) → N.first ≡ N'.first → N.second ≡ N'.second → closes N ≡ closes N'
+closes_same N N' p q = ap₂ (λ f g. closes (record { nodes = 0; pipes = 0; first = f; second = g })) p q
 
 pub alone_same : (N N' : Shape) → N.pipes ≡ N'.pipes → N.first ≡ N'.first → N.second ≡ N'.second → (i : ℕ) → alone N i ≡ alone N' i
 unfolding alone
@@ -102,9 +87,7 @@ alone_same N N' e p q i = ap₂ (λ (m : ℕ) (f : ℕ → Bool). row_of (λ j. 
 
 touching_same : (N N' : Shape) → N.first ≡ N'.first → N.second ≡ N'.second → (r : Row) (v k : ℕ) → touching N r v k ≡ touching N' r v k
 unfolding touching
-touching_same N N' p q r v zero = refl
-touching_same N N' p q r v (suc k) =
-    ap₂ (λ n m. cond (holds r (suc k)) n 0 + m) (ap₂ (λ (f g : ℕ → ℕ). cond (eqb (f k) v) 1 0 + cond (eqb (g k) v) 1 0) p q) (touching_same N N' p q r v k)
+touching_same N N' p q r v k = ap₂ (λ f g. touching (record { nodes = 0; pipes = 0; first = f; second = g }) r v k) p q
 
 -- a closed set does not see how many nodes there are
 pub closed_same : (N N' : Shape) → N.pipes ≡ N'.pipes → N.first ≡ N'.first → N.second ≡ N'.second → (r : Row) → Closed N r → Closed N' r
@@ -117,23 +100,14 @@ pub sound_nodes : (m : ℕ) (N : Shape) (k : ℕ) (ring support : ℕ → Row) �
     → Sound (record { nodes = m; pipes = N.pipes; first = N.first; second = N.second }) k ring support
 sound_nodes m N k ring support s = record {
   few_pipes = s.few_pipes;
-  not_over = subst (λ f. k ≤ count N.pipes f) same s.not_over;
-  of_pipes = λ i l. s.of_pipes i (ranked i l);
-  own = λ j l c. subst (λ f. f j ≡ true → bit (support (count j f)) j ≡ true) same (s.own j l) c;
-  lower = λ i j l h. subst (λ f. (f j ≡ true) × (count j f ≤ i)) same (s.lower i j (ranked i l) h);
-  closed = λ i l. closed_same N N' refl refl refl (ring i) (s.closed i l);
+  not_over = s.not_over;
+  of_pipes = s.of_pipes;
+  own = s.own;
+  lower = s.lower;
+  closed = λ i l. closed_same N (record { nodes = m; pipes = N.pipes; first = N.first; second = N.second }) refl refl refl (ring i) (s.closed i l);
   own_odd = s.own_odd;
-  later_even = λ i j l ij jr. s.later_even i j l ij (ranked j jr);
+  later_even = s.later_even;
 }
-  where
-    N' : Shape
-    N' = record { nodes = m; pipes = N.pipes; first = N.first; second = N.second }
-
-    same : closes N ≡ closes N'
-    same = closes_same N N' refl refl
-
-    ranked : (i : ℕ) → i < rank N' → i < rank N
-    ranked i l = subst (λ f. i < count N.pipes f) (sym same) l
 
 -- One more ring
 

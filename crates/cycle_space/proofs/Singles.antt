@@ -1,12 +1,12 @@
 -- The row of one pipe. Assumes nothing.
-use Rattle.std.proofs.Common.{◌≡◌, ℕ, zero, suc, ◌/◌, ◌%◌, ◌^◌, ◌<◌, ◌≤◌, Bool, eqb, get_or, set, sym, refl, ap, ◌∙◌, subst, arith, ne_eqb}
+use Rattle.std.proofs.Common.{◌≡◌, ℕ, suc, ◌/◌, ◌%◌, ◌^◌, ◌<◌, ◌≤◌, Bool, eqb, get_or, set, sym, ap, ◌∙◌, subst, arith, ne_eqb}
 use Rattle.std.proofs.lemmas.Nat.{pow_below}
 use Rattle.std.proofs.lemmas.Nat.Bits.{bit_at-pow_same, bit_at-pow_other}
 use Rattle.std.proofs.lemmas.Bool.Decides.{nat_tests}
-use native.Mathlib.Decide.{ℕ_discrete, dec_lt}
+use native.Mathlib.Decide.{ℕ_discrete}
 use Rattle.std.proofs.lemmas.List.{length-set, get_or-set_same, get_or-set_other}
-use Rattle.cycle_space.specs.Rows.{Row, bit, holds, row_of, FourWords, empty}
-use Rattle.cycle_space.proofs.Bits.{bit_at, bit_past, empty_bit, empty_row, row_of_words, row_bit, known_by_pipes}
+use Rattle.cycle_space.specs.Rows.{Row, bit, row_of, FourWords, empty}
+use Rattle.cycle_space.proofs.Bits.{bit_at, empty_bit, empty_row, row_of_words, row_bit, row_bits, known_by_bits}
 
 -- the bits of a power of two
 power_bit : (a b : ℕ) → bit_at (2 ^ a) b ≡ eqb b a
@@ -14,13 +14,7 @@ power_bit a b = let same = bit_at-pow_same a in let other = bit_at-pow_other a b
 
 -- the bits of a row with one pipe
 pub single_bit : (p j : ℕ) → p < 256 → bit (row_of (λ i. eqb (suc i) (suc p))) j ≡ eqb j p
-single_bit p j l = elim (dec_lt j 256) [
-  | yes h ↦ row_bit f j h ∙ grind (arith, nat_tests)
-  | no h ↦ bit_past (row_of f) (row_of_words f).four j (omega arith) ∙ sym (ne_eqb j p (λ e. omega arith))
-]
-  where
-    f : ℕ → Bool
-    f i = eqb (suc i) (suc p)
+single_bit p j l = row_bits (λ i. eqb (suc i) (suc p)) (λ i m. grind (arith, nat_tests)) j ∙ grind (arith, nat_tests)
 
 -- the empty row with the bit at the place p set
 abbrev pub marked : ℕ → Row
@@ -49,25 +43,15 @@ module _ (p : ℕ) (l : p < 256) where
   ]
 
   pub marked_is : marked p ≡ row_of (λ j. eqb (suc j) (suc p))
-  marked_is = known_by_pipes (marked p) (row_of f) marked_words (row_of_words f) same
+  marked_is = known_by_bits (marked p) (row_of f) marked_words (row_of_words f) (λ j _. marked_bit j ∙ sym (single_bit p j l))
     where
       f : ℕ → Bool
       f j = eqb (suc j) (suc p)
 
-      same : (j : ℕ) → holds (marked p) j ≡ holds (row_of f) j
-      same zero = refl
-      same (suc j) = marked_bit j ∙ sym (single_bit p j l)
-
 -- what is no pipe's number gives the empty row
 pub none_marked : (pipe : ℕ) → ((1 ≤ pipe) × (pipe ≤ 256) → ⊥) → empty ≡ row_of (λ j. eqb (suc j) pipe)
-none_marked pipe h = known_by_pipes empty (row_of f) empty_row (row_of_words f) same
+none_marked pipe h = known_by_bits empty (row_of f) empty_row (row_of_words f)
+    (λ j l. empty_bit j ∙ sym (row_bit f j l ∙ ne_eqb (suc j) pipe (λ e. h (omega arith, omega arith))))
   where
     f : ℕ → Bool
     f j = eqb (suc j) pipe
-
-    same : (j : ℕ) → holds empty j ≡ holds (row_of f) j
-    same zero = refl
-    same (suc j) = empty_bit j ∙ elim (dec_lt j 256) [
-      | yes l ↦ sym (row_bit f j l ∙ ne_eqb (suc j) pipe (λ e. h (omega arith, omega arith)))
-      | no l ↦ sym (bit_past (row_of f) (row_of_words f).four j (omega arith))
-    ]

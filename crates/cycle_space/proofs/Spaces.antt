@@ -3,7 +3,6 @@ use Rattle.std.proofs.Common.{◌≡◌, ℕ, zero, suc, ◌<◌, ◌≤◌, Boo
 use Rattle.std.proofs.lemmas.List.FromFn.{length-map-range_with_len}
 use Rattle.std.proofs.lemmas.Bool.Decides.{nat_tests}
 use mathlib.Core.Path.{fun_ext}
-use native.Mathlib.Decide.{dec_lt}
 use Rattle.std.proofs.lemmas.List.{ext_get_or}
 use Rattle.cycle_space.specs.Sums.{fold}
 use Rattle.cycle_space.specs.Rows.{Row, bit, holds, FourWords, empty, row_of, add2, sum, odd}
@@ -11,7 +10,7 @@ use Rattle.cycle_space.specs.Shapes.{Shape}
 use Rattle.cycle_space.specs.Bases.{OfPipes, Closed, chosen, Basis}
 use Rattle.cycle_space.proofs.Booleans.{add2_assoc, add2_comm, add2_same}
 use Rattle.cycle_space.proofs.Folds.{Comm, bits, fold_same, fold_front, fold_lone, dot_add}
-use Rattle.cycle_space.proofs.Bits.{row_of_words, row_bit, row_of_bits, bit_past, empty_bit, empty_row, sum_bit, sum_row}
+use Rattle.cycle_space.proofs.Bits.{known_by_bits, row_of_words, row_bits, row_of_bits, empty_bit, empty_row, sum_bit, sum_row}
 use Rattle.cycle_space.proofs.Parities.{odd_fold, parity_laws}
 use Rattle.cycle_space.proofs.Counting.{listed, listed_at}
 use Rattle.cycle_space.proofs.Linear.{picked, Space, Spans}
@@ -78,10 +77,7 @@ of_row N r c = record {
 
 module _ (N : Shape) (few : N.pipes ≤ 256) (x : ℕ → Bool) (c : Cycle N x) where
   pub bits_back : bit (row_of x) ≡ x
-  bits_back = fun_ext (λ j. elim (dec_lt j 256) [
-    | yes l ↦ row_bit x j l
-    | no l ↦ bit_past (row_of x) (row_of_words x).four j (omega arith) ∙ sym (c.bounded j (omega arith))
-  ])
+  bits_back = fun_ext (row_bits x (λ j l. c.bounded j (omega arith)))
 
   -- the row of a closed set is closed
   pub to_row : Closed N (row_of x)
@@ -103,7 +99,7 @@ pub row_back : (m : ℕ) (r : Row) → OfPipes m r → row_of (bit r) ≡ r
 row_back m r w = row_of_bits r w.words
 
 from_bits : (x y : Row) → FourWords x → FourWords y → bit x ≡ bit y → x ≡ y
-from_bits x y p q e = sym (row_of_bits x p) ∙ ap row_of e ∙ row_of_bits y q
+from_bits x y p q e = known_by_bits x y p q (λ j _. ap (λ f. f j) e)
 
 -- Lists of rows and selections
 
