@@ -29,7 +29,7 @@ module _ {M : Type 0} {e : M} {op : M → M → M} {In : M → Type 0} (sp : Spa
       fold_same sp.group n (λ i. cond (add2 (s i) (t i)) (B i) e) (λ i. op (cond (s i) (B i) e) (cond (t i) (B i) e)) (λ i _. cond_two (s i) (t i) (B i))
       ∙ fold_two sp.group n (λ i. cond (s i) (B i) e) (λ i. cond (t i) (B i) e)
 
-  picked_and : (n : ℕ) (B : ℕ → M) (s : ℕ → Bool) (b : Bool) → picked e op n B (λ j. b && s j) ≡ cond b (picked e op n B s) e
+  pub picked_and : (n : ℕ) (B : ℕ → M) (s : ℕ → Bool) (b : Bool) → picked e op n B (λ j. b && s j) ≡ cond b (picked e op n B s) e
   picked_and n B s true = refl
   picked_and n B s false = fold_none sp.group n (λ _. e) (λ _ _. refl)
 

@@ -8,7 +8,7 @@ use Rattle.cycle_space.proofs.Booleans.{eqb_same}
 use Rattle.cycle_space.proofs.Folds.{Comm, numbers, right, fold_same, fold_none, fold_lone, fold_out, fold_rel}
 use Rattle.cycle_space.proofs.Counting.{Different, hit, fresh, hits, hit_fresh, fewer, no_more, count_less, count_full, count_left}
 use Rattle.cycle_space.proofs.Linear.{picked, Space, Spans, replaced, Exchanged, Order, Joins}
-use Rattle.cycle_space.proofs.Bases.{picked_add}
+use Rattle.cycle_space.proofs.Bases.{picked_add, picked_and}
 use Rattle.cycle_space.proofs.Exchanges.{origin}
 
 module _ {M : Type 0} {e : M} {op : M → M → M} (g : Comm e op) where
@@ -18,16 +18,12 @@ module _ {M : Type 0} {e : M} {op : M → M → M} (g : Comm e op) where
   unfolding fold
   fold_hit n u f zero d = sym (g.left (fold e op n u))
   fold_hit n u f (suc k) d =
-      let a : M = fold e op k (λ i. u (f i)) in
       let v : ℕ → M = λ j. cond (hit f k j) e (u j) in
-      let rest : M = fold e op n (λ j. cond (hit f (suc k) j) e (u j)) in
-      fold_hit n u f k (fewer d)
-      ∙ ap (op a)
-      (fold_out g n (f k) v (d.within k (omega arith))
-      ∙ ap₂ op
-      (ap (λ b. cond b e (u (f k))) (fresh f k (f k) (λ i l q. let r = d.apart i k (omega arith) (omega arith) q in omega arith)))
-      (fold_same g n (λ j. cond (eqb j (f k)) e (v j)) (λ j. cond (hit f (suc k) j) e (u j)) (λ j _. grind (arith, nat_tests))))
-      ∙ sym (g.assoc a (u (f k)) rest) ∙ ap (λ x. op x rest) (g.comm a (u (f k)))
+      let new = fresh f k (f k) (λ i l q. let r = d.apart i k (omega arith) (omega arith) q in omega arith) in
+      let ih = fold_hit n u f k (fewer d) in
+      let out = fold_out g n (f k) v (d.within k (omega arith)) in
+      let left = fold_same g n (λ j. cond (eqb j (f k)) e (v j)) (λ j. cond (hit f (suc k) j) e (u j)) (λ j _. grind (arith, nat_tests)) in
+      grind (arith, g.assoc, g.comm)
 
 -- a sum in another order
 pub permuted : {M : Type 0} {e : M} {op : M → M → M} (g : Comm e op) (n : ℕ) (f : ℕ → ℕ) → Different n n f → (u : ℕ → M)
@@ -60,11 +56,8 @@ module _ {M : Type 0} {e : M} {op : M → M → M} {In : M → Type 0} (sp : Spa
   spread_sum n B f t zero h = fold_none sp.group n (λ _. e) (λ _ _. refl)
   spread_sum n B f t (suc k) h =
       picked_add sp n B (λ l. t k && eqb l (f k)) (spread f t k)
-      ∙ ap₂ op (here (t k)) (spread_sum n B f t k (λ i l. h i (omega arith)))
-    where
-      here : (b : Bool) → picked e op n B (λ l. b && eqb l (f k)) ≡ cond b (B (f k)) e
-      here true = one_picked n B (f k) (h k (omega arith))
-      here false = fold_none sp.group n (λ _. e) (λ _ _. refl)
+      ∙ ap₂ op (picked_and sp n B (λ l. eqb l (f k)) (t k) ∙ ap (λ x. cond (t k) x e) (one_picked n B (f k) (h k (omega arith))))
+      (spread_sum n B f t k (λ i l. h i (omega arith)))
 
   module _ {V : Type 0} {leq : V → V → Bool} {w : M → V} {d : ℕ} {C : ℕ → M} (c : Spans e op In d C) {n : ℕ} {B : ℕ → M} {f : ℕ → ℕ}
       (ex : Exchanged e op In leq w d C n B f) where
@@ -88,10 +81,7 @@ module _ {M : Type 0} {e : M} {op : M → M → M} {In : M → Type 0} (sp : Spa
         both_ways true (sym (eqb_same j) ∙ same ∙ spread_fresh f t d j unhit) refl
 
     pub same_size : n ≡ d
-    same_size = by_lt (no_more ex.places) not_less
-      where
-        by_lt : d ≤ n → (d < n → ⊥) → n ≡ d
-        by_lt p q = omega arith
+    same_size = let up = no_more ex.places in let down = not_less in grind arith
 
 -- at equally many places, heavier members: counts and joined weights
 module _ {V : Type 0} {leq : V → V → Bool} (o : Order leq) where

@@ -1,5 +1,5 @@
 -- Sets of pipes with their boundaries, runs as lists of pipes, trails in a set, and rings that are odd against a set. Assumes nothing.
-use Rattle.std.proofs.Common.{◌≡◌, ℕ, zero, suc, ◌%◌, ◌<◌, ◌≤◌, Bool, true, false, not, ◌&&◌, ◌||◌, eqb, List, [], ◌∷◌, sym, refl, ap, ◌∙◌, subst, ap₂, inl, inr, arith, ne_eqb, eqb-true}
+use Rattle.std.proofs.Common.{◌≡◌, ℕ, zero, suc, ◌%◌, ◌<◌, Bool, true, false, not, ◌&&◌, ◌||◌, eqb, List, [], ◌∷◌, sym, refl, ap, ◌∙◌, subst, ap₂, inl, inr, arith, ne_eqb, eqb-true}
 use Rattle.std.proofs.lemmas.Bool.{and_parts}
 use Rattle.std.proofs.lemmas.Bool.Decides.{nat_tests}
 use borrow.Author.Tests.{both_ways}
@@ -159,12 +159,8 @@ extend N x s t j u l e c f = (
   λ w. bd_same N (λ i. add2 (x i) (add2 (eqb i j) (tally f.0 i))) (λ i. add2 (flip x j i) (tally f.0 i)) (λ i. sym (add2_assoc (x i) (eqb i j) (tally f.0 i))) w ∙ f.4 w,
 )
 
-trail_go : (k : ℕ) (N : Shape) (x : ℕ → Bool) (s t : ℕ) → count N.pipes x ≤ k → Bounds N x s t → Found N x s t
-trail_go zero N x s t c h =
-    by_eqb (λ _. Found N x s t) s t (here N x s t h)
-    (λ ne. let r = step N x s t h ne in
-    let less = count_out N.pipes x r.0 r.2 r.3 in
-    absurd (omega arith))
+trail_go : (k : ℕ) (N : Shape) (x : ℕ → Bool) (s t : ℕ) → count N.pipes x < k → Bounds N x s t → Found N x s t
+trail_go zero N x s t c h = absurd (omega arith)
 trail_go (suc k) N x s t c h =
     by_eqb (λ _. Found N x s t) s t (here N x s t h)
     (λ ne. let r = step N x s t h ne in
@@ -173,7 +169,7 @@ trail_go (suc k) N x s t c h =
 
 found : (N : Shape) (x : ℕ → Bool) (s t : ℕ) → ((w : ℕ) → boundary N x w ≡ ends s t w) → Found N x s t
 unfolding Bounds
-found N x s t h = trail_go (count N.pipes x) N x s t (omega arith) h
+found N x s t h = trail_go (suc (count N.pipes x)) N x s t (omega arith) h
 
 -- a run without repetition in a set whose only odd nodes are its ends, and what is left is closed
 pub trail : (N : Shape) (x : ℕ → Bool) (s t : ℕ) → ((w : ℕ) → boundary N x w ≡ ends s t w)
@@ -249,11 +245,11 @@ first N S x h o =
           ∙ add2_assoc true (S e) (parity S f.0);
     }
 
-ring_go : (k : ℕ) (N : Shape) (S x : ℕ → Bool) → count N.pipes x ≤ k → Even N x → odd_in N S x ≡ true → Ring N S x
-ring_go zero N S x c h o = let f = first N S x h o in absurd (omega (arith, f.less))
+ring_go : (k : ℕ) (N : Shape) (S x : ℕ → Bool) → count N.pipes x < k → Even N x → odd_in N S x ≡ true → Ring N S x
+ring_go zero N S x c h o = absurd (omega arith)
 ring_go (suc k) N S x c h o = go (first N S x h o) (λ y. ring_go k N S y)
   where
-    go : (f : First N S x) → ((y : ℕ → Bool) → count N.pipes y ≤ k → Even N y → odd_in N S y ≡ true → Ring N S y) → Ring N S x
+    go : (f : First N S x) → ((y : ℕ → Bool) → count N.pipes y < k → Even N y → odd_in N S y ≡ true → Ring N S y) → Ring N S x
     go f ih = by (parity S (f.e ∷ f.ps)) refl
       where
         by : (b : Bool) → parity S (f.e ∷ f.ps) ≡ b → Ring N S x
@@ -265,7 +261,7 @@ ring_go (suc k) N S x c h o = go (first N S x h o) (λ y. ring_go k N S y)
 -- a closed set that is odd against S has a ring that is: it crosses e from its first end to its second, and then ps back to the first
 pub odd_ring : (N : Shape) (S x : ℕ → Bool) → Even N x → odd_in N S x ≡ true
     → (e : ℕ) × (ps : List ℕ) × (S e ≡ true) × Walk N ps (N.second e) (N.first e) × Every (Inside N x) (e ∷ ps) × Distinct (e ∷ ps) × (parity S (e ∷ ps) ≡ true)
-odd_ring N S x h o = ring_go (count N.pipes x) N S x (omega arith) h o
+odd_ring N S x h o = ring_go (suc (count N.pipes x)) N S x (omega arith) h o
 
 -- Runs as sets
 
