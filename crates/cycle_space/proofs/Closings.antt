@@ -1,5 +1,6 @@
 -- Closing pipes: a closed set without one is empty, and each has a closed set of its own. Assumes nothing.
 use Rattle.std.proofs.Common.{◌≡◌, ℕ, zero, suc, ◌+◌, ◌<◌, ◌≤◌, Bool, true, false, eqb, sym, refl, ap, ◌∙◌, subst, ap₂, inl, inr, arith, eqb-true}
+use Rattle.std.proofs.lemmas.Bool.{cases_Bool}
 use Rattle.std.proofs.lemmas.Bool.Decides.{nat_tests}
 use borrow.Author.Tests.{both_ways}
 use Rattle.cycle_space.specs.Rows.{add2}
@@ -56,11 +57,10 @@ tree_run N k f s t (cross j u l c r) =
     tree_then N k s u t (x.0, x.1, λ v. x.2 v ∙ ends_cross N j s u c v) (tree_run N k f u t r)
 
 tree_at : (N : Shape) (k : ℕ) → k < N.pipes → ((j : ℕ) → j < k → Tree N k (N.first j) (N.second j)) → Tree N (suc k) (N.first k) (N.second k)
-tree_at N k l f = go (closes N k) refl
-  where
-    go : (b : Bool) → closes N k ≡ b → Tree N (suc k) (N.first k) (N.second k)
-    go true e = tree_up N k (N.first k) (N.second k) (tree_run N k f (N.first k) (N.second k) ((closing_decided N k).0 e))
-    go false e = (λ i. eqb i k, λ j h. let q = eqb-true j k h in (omega arith, ap (closes N) q ∙ e), bd_one N k l)
+tree_at N k l f = elim (cases_Bool (closes N k)) [
+  | inl e ↦ tree_up N k (N.first k) (N.second k) (tree_run N k f (N.first k) (N.second k) ((closing_decided N k).0 e))
+  | inr e ↦ (λ i. eqb i k, λ j h. let q = eqb-true j k h in (omega arith, ap (closes N) q ∙ e), bd_one N k l)
+]
 
 trees : (N : Shape) (k : ℕ) → k ≤ N.pipes → (j : ℕ) → j < k → Tree N k (N.first j) (N.second j)
 trees N zero l j h = absurd (omega arith)

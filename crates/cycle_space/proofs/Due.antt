@@ -1,5 +1,6 @@
 -- The due number: there is one, and it is the number of closing pipes. Assumes nothing.
-use Rattle.std.proofs.Common.{◌≡◌, ℕ, zero, suc, ◌+◌, ◌<◌, ◌≤◌, max, Bool, true, false, cond, eqb, sym, refl, subst, arith}
+use Rattle.std.proofs.Common.{◌≡◌, ℕ, zero, suc, ◌+◌, ◌≤◌, max, Bool, eqb, sym, subst, arith}
+use Rattle.std.proofs.lemmas.Bool.{cond_both}
 use Rattle.std.proofs.lemmas.Bool.Decides.{nat_tests}
 use borrow.Author.Tests.{eqb-false}
 use Rattle.cycle_space.specs.Shapes.{Shape, EndsAreNodes, Parts, Due, Closing, Exactly, DueIsClosing}
@@ -26,30 +27,21 @@ root_next N k p q lp lq ne v = grind (arith, nat_tests)
 due_after : (N : Shape) → EndsAreNodes N → (k : ℕ) → k ≤ N.pipes → count k (closes N) + suc N.nodes ≡ k + count (suc N.nodes) (root N k)
 unfolding fold
 due_after N g zero l = let e = count_all (suc N.nodes) (root N zero) (λ v _. eqb_same v) in omega arith
-due_after N g (suc k) l = go (due_after N g k (omega arith)) (closes N k) refl
-  where
-    p : ℕ
-    p = label N k (N.first k)
-
-    q : ℕ
-    q = label N k (N.second k)
-
-    go : count k (closes N) + suc N.nodes ≡ k + count (suc N.nodes) (root N k) → (b : Bool) → closes N k ≡ b
-        → cond b 1 0 + count k (closes N) + suc N.nodes ≡ suc k + count (suc N.nodes) (root N (suc k))
-    go ih true e =
-        let s = count_same (suc N.nodes) (root N (suc k)) (root N k) (λ v _. grind (arith, nat_tests)) in
-        omega arith
-    go ih false e =
-        let lp = label_label N k (N.first k) in
-        let lq = label_label N k (N.second k) in
-        let s = count_same (suc N.nodes) (root N (suc k)) (flip (root N k) (max p q)) (λ v _. root_next N k p q lp lq (eqb-false p q e) v) in
-        let p_le = label_le N k (N.first k) in
-        let q_le = label_le N k (N.second k) in
-        let first_in = (g k l).0.1 in
-        let second_in = (g k l).1.1 in
-        let low : max p q < suc N.nodes = omega arith in
-        let o = count_out (suc N.nodes) (root N k) (max p q) low (grind (arith, nat_tests)) in
-        omega arith
+due_after N g (suc k) l =
+    let ih = due_after N g k (omega arith) in
+    let p : ℕ = label N k (N.first k) in
+    let q : ℕ = label N k (N.second k) in
+    cond_both (closes N k) 1 0 (λ c. c + count k (closes N) + suc N.nodes ≡ suc k + count (suc N.nodes) (root N (suc k)))
+    (λ e. let s = count_same (suc N.nodes) (root N (suc k)) (root N k) (λ v _. grind (arith, nat_tests)) in omega arith)
+    (λ e.
+    let lp = label_label N k (N.first k) in
+    let lq = label_label N k (N.second k) in
+    let s = count_same (suc N.nodes) (root N (suc k)) (flip (root N k) (max p q)) (λ v _. root_next N k p q lp lq (eqb-false p q e) v) in
+    let p_le = label_le N k (N.first k) in
+    let q_le = label_le N k (N.second k) in
+    let ends = g k l in
+    let o = count_out (suc N.nodes) (root N k) (max p q) (omega (arith, ends.0.1, ends.1.1)) (grind (arith, nat_tests)) in
+    omega arith)
 
 pub due_by_labels : (N : Shape) → EndsAreNodes N
     → rank N + N.nodes ≡ N.pipes + count N.nodes (λ v. eqb (label N N.pipes (suc v)) (suc v))

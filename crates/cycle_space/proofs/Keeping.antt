@@ -1,5 +1,6 @@
 -- How rings and supports stay sound: before the first ring, with another number of nodes, with one more ring. Assumes nothing.
-use Rattle.std.proofs.Common.{◌≡◌, ℕ, zero, suc, ◌%◌, ◌<◌, ◌≤◌, Bool, true, false, ◌&&◌, eqb, ltb, length, sym, refl, ap, ◌∙◌, subst, ap₂, inl, inr, arith}
+use Rattle.std.proofs.Common.{◌≡◌, ℕ, zero, suc, ◌%◌, ◌<◌, ◌≤◌, Bool, true, false, ◌&&◌, eqb, ltb, ◌⊎◌, length, sym, refl, ap, ◌∙◌, subst, ap₂, inl, inr, arith}
+use Rattle.std.proofs.lemmas.Bool.{cases_Bool}
 use Rattle.std.proofs.lemmas.Bool.Decides.{nat_tests}
 use native.Mathlib.Decide.{dec_lt}
 use Rattle.cycle_space.specs.Sums.{count}
@@ -8,7 +9,7 @@ use Rattle.cycle_space.specs.Shapes.{Shape, Closing, Exactly}
 use Rattle.cycle_space.specs.Labels.{closes}
 use Rattle.cycle_space.specs.Bases.{OfPipes, touching, Closed}
 use Rattle.cycle_space.specs.Supports.{rank, before, alone, Sound, Extended, AloneHolds}
-use Rattle.cycle_space.proofs.Booleans.{by_eqb, not_so, either}
+use Rattle.cycle_space.proofs.Booleans.{by_eqb, not_so}
 use Rattle.cycle_space.proofs.Bits.{known_by_bits, row_of_words, row_bits, empty_bit, empty_row, sum_bit, sum_holds, sum_row}
 use Rattle.cycle_space.proofs.Singles.{single_bit}
 use Rattle.cycle_space.proofs.Parities.{parity_laws}
@@ -117,21 +118,6 @@ odd_sum x s t ws wt =
 
 module _ (N : Shape) (k : ℕ) (ring support : ℕ → Row) (s : Sound N k ring support) (c : Row) (cc : Closed N c) (co : odd c (support k) ≡ true) (kr : k < rank N)
     (ring' : ℕ → Row) (old : (i : ℕ) → i < k → ring' i ≡ ring i) (new : ring' k ≡ c) (support' : ℕ → Row) (x : Extended k support c support') where
-  -- a support is the old one, or a later one and that of the new ring added
-  data Later (i : ℕ) : Type 0 where
-    same : support' i ≡ support i → (k < i → odd c (support i) ≡ false) → Later i
-    turned : k < i → odd c (support i) ≡ true → support' i ≡ sum (support i) (support k) → Later i
-
-  later : (i : ℕ) → Later i
-  later i = elim (dec_lt k i) [
-    | yes l ↦ go l (odd c (support i)) refl
-    | no l ↦ same (x.earlier_stay i (omega arith)) (λ h. absurd (l h))
-  ]
-    where
-      go : k < i → (b : Bool) → odd c (support i) ≡ b → Later i
-      go l true o = turned l o (x.odd_turn i l o)
-      go l false o = same (x.even_stay i l o) (λ _. o)
-
   four : (i : ℕ) → i < rank N → FourWords (support i)
   four i l = (s.of_pipes i l).words
 
@@ -139,48 +125,43 @@ module _ (N : Shape) (k : ℕ) (ring support : ℕ → Row) (s : Sound N k ring 
   long i l = (four i l).four ∙ sym (four k kr).four
 
   of_pipes' : (i : ℕ) → i < rank N → OfPipes N.pipes (support' i)
-  of_pipes' i l = go (later i)
-    where
-      go : Later i → OfPipes N.pipes (support' i)
-      go (same e _) = subst (OfPipes N.pipes) (sym e) (s.of_pipes i l)
-      go (turned _ _ e) = subst (OfPipes N.pipes) (sym e) (record {
-        words = sum_row (support i) (support k) (four i l) (four k kr);
-        others = λ j h. sum_holds (support i) (support k) (long i l) j ∙ ap₂ add2 ((s.of_pipes i l).others j h) ((s.of_pipes k kr).others j h);
-      })
+  of_pipes' i l = elim (dec_lt k i) [
+    | yes m ↦ elim (cases_Bool (odd c (support i))) [
+      | inl o ↦ subst (OfPipes N.pipes) (sym (x.odd_turn i m o)) (record {
+          words = sum_row (support i) (support k) (four i l) (four k kr);
+          others = λ j h. sum_holds (support i) (support k) (long i l) j ∙ ap₂ add2 ((s.of_pipes i l).others j h) ((s.of_pipes k kr).others j h);
+        })
+      | inr o ↦ subst (OfPipes N.pipes) (sym (x.even_stay i m o)) (s.of_pipes i l)
+    ]
+    | no m ↦ subst (OfPipes N.pipes) (sym (x.earlier_stay i (omega arith))) (s.of_pipes i l)
+  ]
+
+  -- the bits of a support: the old ones, or those of the new ring's support added
+  new_bit : (i j : ℕ) → i < rank N → (bit (support' i) j ≡ bit (support i) j) ⊎ ((k < i) × (bit (support' i) j ≡ add2 (bit (support i) j) (bit (support k) j)))
+  new_bit i j l =
+      let stay = x.earlier_stay i in
+      let even = x.even_stay i in
+      let turn = x.odd_turn i in
+      let both = sum_bit (support i) (support k) (long i l) j in
+      grind arith
 
   own' : (j : ℕ) → j < N.pipes → closes N j ≡ true → before N j < rank N → bit (support' (before N j)) j ≡ true
-  own' j l cj r = go (later (before N j))
-    where
-      go : Later (before N j) → bit (support' (before N j)) j ≡ true
-      go (same e _) = ap (λ t. bit t j) e ∙ s.own j l cj
-      go (turned ki _ e) =
-          ap (λ t. bit t j) e ∙ sum_bit (support (before N j)) (support k) (long (before N j) r) j
-          ∙ ap₂ add2 (s.own j l cj) (not_so (bit (support k) j) (λ h. let low = (s.lower k j kr h).1 in omega arith))
+  own' j l cj r = let b = new_bit (before N j) j r in let old = s.own j l cj in let low = s.lower k j kr in grind arith
 
   lower' : (i j : ℕ) → i < rank N → bit (support' i) j ≡ true → (closes N j ≡ true) × (before N j ≤ i)
-  lower' i j l h = go (later i)
-    where
-      go : Later i → (closes N j ≡ true) × (before N j ≤ i)
-      go (same e _) = s.lower i j l (sym (ap (λ t. bit t j) e) ∙ h)
-      go (turned ki _ e) = elim (either (bit (support i) j) (bit (support k) j) (sym (ap (λ t. bit t j) e ∙ sum_bit (support i) (support k) (long i l) j) ∙ h)) [
-        | inl p ↦ s.lower i j l p
-        | inr q ↦ let low = s.lower k j kr q in (low.0, (let e = low.1 in omega arith))
-      ]
+  lower' i j l h = let b = new_bit i j l in let one = s.lower i j l in let two = s.lower k j kr in grind arith
 
   later_even' : (i j : ℕ) → i < suc k → i < j → j < rank N → odd (ring' i) (support' j) ≡ false
-  later_even' i j l ij jr = by_eqb (λ _. odd (ring' i) (support' j) ≡ false) i k
-      (λ q. ap (λ r. odd r (support' j)) (ap ring' q ∙ new) ∙ at_new (omega arith) (later j))
-      (λ ne. let ik : i < k = omega arith in ap (λ r. odd r (support' j)) (old i ik) ∙ at_old ik (later j))
-    where
-      at_new : k < j → Later j → odd c (support' j) ≡ false
-      at_new kj (same e even) = ap (odd c) e ∙ even kj
-      at_new kj (turned _ o e) = ap (odd c) e ∙ odd_sum c (support j) (support k) (four j jr) (four k kr) ∙ ap₂ add2 o co
-
-      at_old : i < k → Later j → odd (ring i) (support' j) ≡ false
-      at_old ik (same e _) = ap (odd (ring i)) e ∙ s.later_even i j ik ij jr
-      at_old ik (turned _ _ e) =
-          ap (odd (ring i)) e ∙ odd_sum (ring i) (support j) (support k) (four j jr) (four k kr)
-          ∙ ap₂ add2 (s.later_even i j ik ij jr) (s.later_even i k ik ik kr)
+  later_even' i j l ij jr =
+      let stay = x.earlier_stay j in
+      let even = x.even_stay j in
+      let turn = x.odd_turn j in
+      let before = old i in
+      let one = λ (ik : i < k). s.later_even i j ik ij jr in
+      let two = λ (ik : i < k). s.later_even i k ik ik kr in
+      let at_new = odd_sum c (support j) (support k) (four j jr) (four k kr) in
+      let at_old = odd_sum (ring i) (support j) (support k) (four j jr) (four k kr) in
+      grind arith
 
   pub sound_next : Sound N (suc k) ring' support'
   sound_next = record {
@@ -191,8 +172,6 @@ module _ (N : Shape) (k : ℕ) (ring support : ℕ → Row) (s : Sound N k ring 
     lower = lower';
     closed = λ i l. by_eqb (λ _. Closed N (ring' i)) i k
         (λ q. subst (Closed N) (sym (ap ring' q ∙ new)) cc) (λ ne. subst (Closed N) (sym (old i (omega arith))) (s.closed i (omega arith)));
-    own_odd = λ i l. by_eqb (λ _. odd (ring' i) (support' i) ≡ true) i k
-        (λ q. ap₂ odd (ap ring' q ∙ new) (x.earlier_stay i (omega arith) ∙ ap support q) ∙ co)
-        (λ ne. ap₂ odd (old i (omega arith)) (x.earlier_stay i (omega arith)) ∙ s.own_odd i (omega arith));
+    own_odd = λ i l. let before = old i in let stay = x.earlier_stay i in let was = s.own_odd i in grind arith;
     later_even = later_even';
   }
