@@ -32,9 +32,6 @@ and_comm a b = grind arith
 pub add2_and : (a b c : Bool) → (add2 a b && c) ≡ add2 (a && c) (b && c)
 add2_and a b c = grind arith
 
-pub and_add2 : (c a b : Bool) → (c && add2 a b) ≡ add2 (c && a) (c && b)
-and_add2 c a b = grind arith
-
 -- the middle one goes
 pub add2_cut : (a b c : Bool) → add2 (add2 a b) (add2 b c) ≡ add2 a c
 add2_cut a b c = grind arith

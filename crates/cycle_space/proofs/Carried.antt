@@ -1,5 +1,6 @@
 -- Rings carried over a pairing of the pipes of two nets, and equal counts. Assumes nothing.
 use Rattle.std.proofs.Common.{◌≡◌, ℕ, zero, suc, ◌<◌, ◌≤◌, Bool, true, cond, ◌&&◌, List, map, length, get_or, sym, refl, ap, ◌∙◌, subst, ap₂, arith}
+use Rattle.cycle_space.proofs.Bits.{row_of_bits}
 use mathlib.Core.Path.{fun_ext}
 use Rattle.std.proofs.lemmas.List.{length-map, get_or-map}
 use Rattle.cycle_space.specs.Sums.{fold, count}
@@ -8,7 +9,7 @@ use Rattle.cycle_space.specs.Moments.{Pipe, Moment, shape, weights, weight}
 use Rattle.cycle_space.specs.Bases.{Closed, Basis}
 use Rattle.cycle_space.specs.Supports.{Sound}
 use Rattle.cycle_space.specs.Rivals.{SamePipes, how_many}
-use Rattle.cycle_space.proofs.Folds.{Comm, bits, numbers, fold_same}
+use Rattle.cycle_space.proofs.Folds.{Comm, bits, numbers, fold_same, dot_add}
 use Rattle.cycle_space.proofs.Counting.{Different, no_more}
 use Rattle.cycle_space.proofs.Linear.{picked, Space, Spans, Rings, Exchanged, Order, Joins}
 use Rattle.cycle_space.proofs.Exchanges.{exchange}
@@ -16,7 +17,7 @@ use Rattle.cycle_space.proofs.Counts.{permuted, more_light}
 use Rattle.cycle_space.proofs.Weights.{heft, weight_heft}
 use Rattle.cycle_space.proofs.Pairings.{Paired, paired, paired_back}
 use Rattle.cycle_space.proofs.Trails.{ends, boundary}
-use Rattle.cycle_space.proofs.Spaces.{none, xors, Cycle, odd_sets, odd_adds, space, bits_back, row_back, to_spans}
+use Rattle.cycle_space.proofs.Spaces.{none, xors, Cycle, odd_sets, space, bits_back, to_spans}
 use Rattle.cycle_space.proofs.Lists.{our_rings, many_count}
 
 -- in one space: two lists of rings that are bases have equally many members at most as heavy as v
@@ -152,14 +153,14 @@ module _ {M : Type 0} {zero' : M} {join : M → M → M} {within : M → M → B
       let S' : ℕ → (ℕ → Bool) → Bool = λ i. odd_sets (bit (support' i)) in
       many_count js n v ours
       ∙ fold_same numbers (length ours) (λ i. cond (within (weight zero' join n (get_or ours i empty)) v) 1 0) (λ i. cond (within (w (C i)) v) 1 0)
-      (λ i l. ap (λ a. cond (within (weight zero' join n a) v) 1 0) (sym (row_back (shape n).pipes (get_or ours i empty) (s.closed i l).of_pipes)))
+      (λ i l. ap (λ a. cond (within (weight zero' join n a) v) 1 0) (sym (row_of_bits (get_or ours i empty) (s.closed i l).of_pipes.words)))
       ∙ same_counts (space (shape n)) js.order w
-      (λ i. odd_sets (bit (support i))) (λ i. odd_adds (bit (support i))) (length ours) C (our_rings js n ours support s least) (to_spans (shape n) few ours b)
-      (λ i x. S' i (λ j. x (p.from j))) (λ i x y. odd_adds (bit (support' i)) (λ j. x (p.from j)) (λ j. y (p.from j))) (length ours') (λ i j. C' i (p.to j))
+      (λ i. odd_sets (bit (support i))) (λ i. dot_add 256 (bit (support i))) (length ours) C (our_rings js n ours support s least) (to_spans (shape n) few ours b)
+      (λ i x. S' i (λ j. x (p.from j))) (λ i x y. dot_add 256 (bit (support' i)) (λ j. x (p.from j)) (λ j. y (p.from j))) (length ours') (λ i j. C' i (p.to j))
       (to_rings js n n' p few few' S' (length ours') C' (our_rings js n' ours' support' s' least'))
       (to_basis js n n' p few few' (length ours') C' (to_spans (shape n') few' ours' b')) v
       ∙ fold_same numbers (length ours') (λ i. cond (within (w (λ j. C' i (p.to j))) v) 1 0) (λ i. cond (within (weight zero' join n' (get_or ours' i empty)) v) 1 0)
       (λ i l. ap (λ a. cond (within a v) 1 0)
       (to_weight js n n' p few few' (C' i) ((our_rings js n' ours' support' s' least').inside i l)
-      ∙ ap (weight zero' join n') (row_back (shape n').pipes (get_or ours' i empty) (s'.closed i l).of_pipes)))
+      ∙ ap (weight zero' join n') (row_of_bits (get_or ours' i empty) (s'.closed i l).of_pipes.words)))
       ∙ sym (many_count js n' v ours')

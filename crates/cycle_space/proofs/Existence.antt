@@ -1,5 +1,6 @@
 -- Sound rings exist, as many as there are closing pipes, and are a basis, so what is proved of rings is proved of something; and every basis has as many members. Assumes nothing.
 use Rattle.std.proofs.Common.{◌≡◌, ℕ, zero, suc, ◌≤◌, Bool, true, cond, ◌&&◌, ltb, List, length, get_or, sym, refl, ◌∙◌, subst, arith}
+use Rattle.cycle_space.proofs.Folds.{dot_add}
 use Rattle.std.proofs.lemmas.List.FromFn.{length-map-range_with_len}
 use Rattle.std.proofs.lemmas.Bool.Decides.{nat_tests}
 use native.Mathlib.Decide.{dec_lt}
@@ -14,7 +15,7 @@ use Rattle.cycle_space.proofs.Counts.{same_size}
 use Rattle.cycle_space.proofs.Due.{due_rank}
 use Rattle.cycle_space.proofs.Bits.{known_by_bits, empty_bit, empty_row}
 use Rattle.cycle_space.proofs.Closings.{separation}
-use Rattle.cycle_space.proofs.Spaces.{odd_adds, space, of_row, to_spans}
+use Rattle.cycle_space.proofs.Spaces.{space, of_row, to_spans}
 use Rattle.cycle_space.proofs.Supports.{due_ring, sound_rings}
 use Rattle.cycle_space.proofs.Keeping.{sound_alone, sound_next}
 use Rattle.cycle_space.proofs.Props.{as_rings}
@@ -72,5 +73,5 @@ bases_have_due_size N g few rival b =
     let r = sound_bases_exist N few in
     let ours = r.0 in
     let rings = sound_rings N (length ours) (λ i. get_or ours i empty) r.1 r.3 {V = Bool} (λ _ _. true) (λ _. true) (λ _ _ _ _ _. refl) in
-    let ex = exchange (space N) (λ i. odd_adds (bit (r.1 i))) rings (to_spans N few rival b) in
+    let ex = exchange (space N) (λ i. dot_add 256 (bit (r.1 i))) rings (to_spans N few rival b) in
     subst (Due N) (sym (same_size (space N) (to_spans N few ours r.4) ex.1 ∙ r.2)) (due_rank N g)

@@ -1,5 +1,6 @@
 -- Rings and rivals as lists of rows: full lists are bases, the exchange, the joined weight, the counts. Assumes nothing.
 use Rattle.std.proofs.Common.{◌≡◌, ℕ, zero, suc, ◌+◌, ◌<◌, Bool, true, cond, List, [], ◌∷◌, map, length, get_or, sym, refl, ap, ◌∙◌, subst, ap₂, inl, inr, arith}
+use Rattle.cycle_space.proofs.Bits.{row_of_bits}
 use Rattle.std.proofs.lemmas.List.FromFn.{length-map-range_with_len}
 use Rattle.std.proofs.lemmas.Bool.Decides.{nat_tests}
 use mathlib.Core.Path.{fun_ext}
@@ -11,12 +12,12 @@ use Rattle.cycle_space.specs.Moments.{Moment, shape, weight}
 use Rattle.cycle_space.specs.Bases.{Closed, Basis}
 use Rattle.cycle_space.specs.Supports.{rank, Sound}
 use Rattle.cycle_space.specs.Rivals.{joined_weight, exchanged, Exchanges, how_many}
-use Rattle.cycle_space.proofs.Folds.{numbers, fold_front}
+use Rattle.cycle_space.proofs.Folds.{numbers, fold_front, dot_add}
 use Rattle.cycle_space.proofs.Counting.{Different, listed, listed_at}
 use Rattle.cycle_space.proofs.Linear.{Spans, Rings, replaced, Exchanged, Joins}
 use Rattle.cycle_space.proofs.Exchanges.{origin, exchange}
 use Rattle.cycle_space.proofs.Counts.{same_size, lighter}
-use Rattle.cycle_space.proofs.Spaces.{none, xors, Cycle, odd_sets, odd_adds, space, row_back, to_spans, from_spans}
+use Rattle.cycle_space.proofs.Spaces.{none, xors, Cycle, odd_sets, space, to_spans, from_spans}
 use Rattle.cycle_space.proofs.Supports.{sound_rings, not_yet, full}
 
 -- The exchanged list
@@ -88,10 +89,10 @@ module _ {M : Type 0} {zero' : M} {join : M → M → M} {within : M → M → B
       Swap f = Exchanged none xors (Cycle (shape n)) within (λ x. weight zero' join n (row_of x)) (length ours) (λ i. bit (get_or ours i empty)) (length rival) (λ i. bit (get_or rival i empty)) f
 
       pub swap : (f : ℕ → ℕ) × Swap f
-      swap = exchange (space (shape n)) (λ i. odd_adds (bit (support i))) our_rings (to_spans (shape n) s.few_pipes rival b)
+      swap = exchange (space (shape n)) (λ i. dot_add 256 (bit (support i))) our_rings (to_spans (shape n) s.few_pipes rival b)
 
       weighs : (r : Row) → Closed (shape n) r → weight zero' join n (row_of (bit r)) ≡ weight zero' join n r
-      weighs r c = ap (weight zero' join n) (row_back (shape n).pipes r c.of_pipes)
+      weighs r c = ap (weight zero' join n) (row_of_bits r c.of_pipes.words)
 
       module _ (f : ℕ → ℕ) (ex : Swap f) where
         heavy : (i : ℕ) → i < length ours → within (weight zero' join n (get_or ours i empty)) (weight zero' join n (get_or rival (f i) empty)) ≡ true

@@ -7,10 +7,10 @@ use Rattle.std.proofs.lemmas.List.{ext_get_or}
 use Rattle.cycle_space.specs.Sums.{fold}
 use Rattle.cycle_space.specs.Rows.{Row, bit, holds, FourWords, empty, row_of, add2, sum, odd}
 use Rattle.cycle_space.specs.Shapes.{Shape}
-use Rattle.cycle_space.specs.Bases.{OfPipes, Closed, chosen, Basis}
+use Rattle.cycle_space.specs.Bases.{Closed, chosen, Basis}
 use Rattle.cycle_space.proofs.Booleans.{add2_assoc, add2_comm, add2_same}
-use Rattle.cycle_space.proofs.Folds.{Comm, bits, fold_same, fold_front, fold_lone, dot_add}
-use Rattle.cycle_space.proofs.Bits.{known_by_bits, row_of_words, row_bits, row_of_bits, empty_bit, empty_row, sum_bit, sum_row}
+use Rattle.cycle_space.proofs.Folds.{Comm, bits, fold_same, fold_front, fold_lone}
+use Rattle.cycle_space.proofs.Bits.{known_by_bits, row_of_words, row_bits, empty_bit, empty_row, sum_bit, sum_row}
 use Rattle.cycle_space.proofs.Parities.{odd_fold, parity_laws}
 use Rattle.cycle_space.proofs.Counting.{listed, listed_at}
 use Rattle.cycle_space.proofs.Linear.{picked, Space, Spans}
@@ -42,9 +42,6 @@ odd_sets s x = fold false add2 256 (λ j. s j && x j)
 -- on rows it is their parity
 pub odd_bits : (x s : Row) → odd x s ≡ odd_sets (bit s) (bit x)
 odd_bits x s = parity_laws.symmetric x s ∙ odd_fold s x
-
-pub odd_adds : (s x y : ℕ → Bool) → odd_sets s (xors x y) ≡ add2 (odd_sets s x) (odd_sets s y)
-odd_adds s x y = dot_add 256 s x y
 
 -- with one coordinate in common at most, that one decides
 pub odd_one : (s x : ℕ → Bool) (i : ℕ) → i < 256 → ((j : ℕ) → s j ≡ true → x j ≡ true → j ≡ i) → odd_sets s x ≡ (s i && x i)
@@ -94,10 +91,7 @@ module _ (N : Shape) (few : N.pipes ≤ 256) (x : ℕ → Bool) (c : Cycle N x) 
       others zero l = refl
       others (suc j) l = ap (λ f. f j) bits_back ∙ c.bounded j (omega arith)
 
--- a row is the row of its bits, and is known by them
-pub row_back : (m : ℕ) (r : Row) → OfPipes m r → row_of (bit r) ≡ r
-row_back m r w = row_of_bits r w.words
-
+-- a row is known by its bits
 from_bits : (x y : Row) → FourWords x → FourWords y → bit x ≡ bit y → x ≡ y
 from_bits x y p q e = known_by_bits x y p q (λ j _. ap (λ f. f j) e)
 
