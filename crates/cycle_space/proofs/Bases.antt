@@ -21,12 +21,9 @@ turn_turn : (s t : ℕ → Bool) (i : ℕ) → s i ≡ true → (j : ℕ) → tu
 turn_turn s t i h j = grind (arith, nat_tests)
 
 module _ {M : Type 0} {e : M} {op : M → M → M} {In : M → Type 0} (sp : Space e op In) where
-  cond_two : (a b : Bool) (x : M) → cond (add2 a b) x e ≡ op (cond a x e) (cond b x e)
-  cond_two a b x = grind (arith, sp.twice, sp.group.left, right sp.group)
-
   pub picked_add : (n : ℕ) (B : ℕ → M) (s t : ℕ → Bool) → picked e op n B (λ i. add2 (s i) (t i)) ≡ op (picked e op n B s) (picked e op n B t)
   picked_add n B s t =
-      fold_same sp.group n (λ i. cond (add2 (s i) (t i)) (B i) e) (λ i. op (cond (s i) (B i) e) (cond (t i) (B i) e)) (λ i _. cond_two (s i) (t i) (B i))
+      fold_same sp.group n (λ i. cond (add2 (s i) (t i)) (B i) e) (λ i. op (cond (s i) (B i) e) (cond (t i) (B i) e)) (λ i _. grind (arith, sp.twice, sp.group.left, right sp.group))
       ∙ fold_two sp.group n (λ i. cond (s i) (B i) e) (λ i. cond (t i) (B i) e)
 
   pub picked_and : (n : ℕ) (B : ℕ → M) (s : ℕ → Bool) (b : Bool) → picked e op n B (λ j. b && s j) ≡ cond b (picked e op n B s) e

@@ -1,9 +1,8 @@
 -- The row of one pipe. Assumes nothing.
-use Rattle.std.proofs.Common.{◌≡◌, ℕ, suc, ◌/◌, ◌%◌, ◌^◌, ◌<◌, ◌≤◌, Bool, eqb, get_or, set, sym, ap, ◌∙◌, subst, arith, ne_eqb}
+use Rattle.std.proofs.Common.{◌≡◌, ℕ, suc, ◌/◌, ◌%◌, ◌^◌, ◌<◌, ◌≤◌, Bool, eqb, set, sym, ◌∙◌, arith, ne_eqb}
 use Rattle.std.proofs.lemmas.Nat.{pow_below}
 use Rattle.std.proofs.lemmas.Nat.Bits.{bit_at-pow_same, bit_at-pow_other}
 use Rattle.std.proofs.lemmas.Bool.Decides.{nat_tests}
-use native.Mathlib.Decide.{ℕ_discrete}
 use Rattle.std.proofs.lemmas.List.{length-set, get_or-set_same, get_or-set_other}
 use Rattle.cycle_space.specs.Rows.{Row, bit, row_of, FourWords, empty}
 use Rattle.cycle_space.proofs.Bits.{bit_at, empty_bit, empty_row, row_of_words, row_bit, row_bits, known_by_bits}
@@ -24,23 +23,22 @@ module _ (p : ℕ) (l : p < 256) where
   marked_words : FourWords (marked p)
   marked_words = record {
     four = length-set empty (p / 64) (2 ^ (p % 64));
-    words = λ k. elim (ℕ_discrete k (p / 64)) [
-      | yes q ↦ subst (λ n. get_or (marked p) n 0 < 2 ^ 64) (sym q)
-          (subst (λ n. n < 2 ^ 64) (sym (get_or-set_same empty (p / 64) (2 ^ (p % 64)) 0 (omega arith))) (pow_below (p % 64) 64 (omega arith)))
-      | no q ↦ subst (λ n. n < 2 ^ 64) (sym (get_or-set_other empty (p / 64) k (2 ^ (p % 64)) 0 q)) (empty_row.words k)
-    ];
+    words = λ k.
+        let here = get_or-set_same empty (p / 64) (2 ^ (p % 64)) 0 (omega arith) in
+        let there = get_or-set_other empty (p / 64) k (2 ^ (p % 64)) 0 in
+        let zero_there = empty_row.words k in
+        let low = pow_below (p % 64) 64 (omega arith) in
+        grind arith;
   }
 
   marked_bit : (j : ℕ) → bit (marked p) j ≡ eqb j p
   unfolding bit
-  marked_bit j = elim (ℕ_discrete (j / 64) (p / 64)) [
-    | yes q ↦ ap (λ n. bit_at (get_or (marked p) n 0) (j % 64)) q
-        ∙ ap (λ n. bit_at n (j % 64)) (get_or-set_same empty (p / 64) (2 ^ (p % 64)) 0 (omega arith))
-        ∙ power_bit (p % 64) (j % 64)
-        ∙ grind (arith, nat_tests)
-    | no q ↦ ap (λ n. bit_at n (j % 64)) (get_or-set_other empty (p / 64) (j / 64) (2 ^ (p % 64)) 0 q) ∙ empty_bit j
-        ∙ sym (ne_eqb j p (λ e. q (ap (λ n. n / 64) e)))
-  ]
+  marked_bit j =
+      let here = get_or-set_same empty (p / 64) (2 ^ (p % 64)) 0 (omega arith) in
+      let there = get_or-set_other empty (p / 64) (j / 64) (2 ^ (p % 64)) 0 in
+      let none = empty_bit j in
+      let at = power_bit (p % 64) (j % 64) in
+      grind (arith, nat_tests)
 
   pub marked_is : marked p ≡ row_of (λ j. eqb (suc j) (suc p))
   marked_is = known_by_bits (marked p) (row_of f) marked_words (row_of_words f) (λ j _. marked_bit j ∙ sym (single_bit p j l))

@@ -31,10 +31,10 @@ module _ (N : Shape) (k : ℕ) (ring support : ℕ → Row) (s : Sound N k ring 
       ∙ sym (odd_one (bit (support (before N j))) x j (let few = s.few_pipes in omega arith)
       (λ i si xi.
       let low = s.lower (before N j) i (count_before (closes N) N.pipes j l cj) si in
-      elim (dec_lt (before N i) (before N j)) [
-        | yes less ↦ absurd (both_ways (x i) (none_closing x c h b i (omega arith) (in_net x c i xi) low.0) xi)
-        | no more ↦ count_same_place (closes N) i j low.0 cj (omega (arith, low.1))
-      ]))
+      let less = none_closing x c h b i in
+      let in_x = in_net x c i xi in
+      let one = count_same_place (closes N) i j low.0 cj in
+      grind arith))
       ∙ h (before N j) (count_before (closes N) N.pipes j l cj)
 
   -- the empty set alone is even against all supports

@@ -1,5 +1,5 @@
 -- Where the pipe has a spot, the code marks the bit `pipe - 1` in the empty row.
-use Rattle.std.proofs.Common.{◌≡◌, ℕ, suc, ◌-◌, ◌/◌, ◌%◌, eqb, set, ap, ◌∙◌, inl, inr, arith}
+use Rattle.std.proofs.Common.{◌≡◌, ℕ, suc, ◌-◌, ◌/◌, ◌%◌, eqb, set, ap, ◌∙◌, arith}
 use Rattle.std.proofs.lemmas.Nat.{one_shl}
 use Rattle.cycle_space.specs.Rows.{row_of, empty}
 use Rattle.cycle_space.proofs.Singles.{marked_is, none_marked}
@@ -16,4 +16,4 @@ returns-in-Some c =
     )
 
 pub returns-in_default : goal.returns-in_default
-returns-in_default c = none_marked c.args.pipe (λ p. elim c.in_default.ensures [ inl q ↦ omega (arith, p.0) | inr q ↦ omega (arith, p.1) ])
+returns-in_default c = none_marked c.args.pipe (λ p. let none = c.in_default.ensures in grind arith)
