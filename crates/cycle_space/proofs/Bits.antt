@@ -1,69 +1,36 @@
 -- The bits of words and of rows: a row is known by its pipes, and the laws of the sum. Assumes nothing.
-use Rattle.std.proofs.Common.{◌≡◌, ℕ, zero, suc, ◌+◌, ◌-◌, ◌*◌, ◌/◌, ◌%◌, ◌^◌, ◌<◌, ◌≤◌, Bool, true, false, cond, ◌&&◌, eqb, ◌⊎◌, [], ◌∷◌, length, get_or, sym, refl, ap, ◌∙◌, subst, ap₂, inl, inr, pow-suc, arith, shr-shr}
+use Rattle.std.proofs.Common.{◌≡◌, ℕ, zero, suc, ◌+◌, ◌-◌, ◌*◌, ◌/◌, ◌%◌, ◌^◌, ◌<◌, ◌≤◌, Bool, false, cond, ◌&&◌, eqb, [], ◌∷◌, length, get_or, sym, refl, ap, ◌∙◌, subst, ap₂, pow-suc, arith}
+use Rattle.std.proofs.lemmas.Nat.Bits.{bit_at_lowest, bit_at-suc, bit_at-zero, bit_at_and as and_at, bit_at_xor as xor_at, same_from_bits_below}
+use Rattle.std.proofs.lemmas.Bool.Decides.{nat_tests}
 use native.Mathlib.Decide.{dec_lt}
-use borrow.Author.Tests.{both_ways}
-use lib.Bits.{bit_and, bit_xor, and_shr, and_mod, xor_shr, xor_mod, xor_lt}
-use lib.Pow.{shr_le}
+use lib.Bits.{bit_and, bit_xor, xor_lt}
 use Rattle.std.proofs.lemmas.List.{get_or_past, ext_get_or}
 use Rattle.cycle_space.specs.Rows.{Row, bit, holds, FourWords, empty, word_of, row_of, add2, sum, KnownByPipes, SumLaws}
-use Rattle.cycle_space.proofs.Booleans.{by_eqb, add2_same, add2_comm, add2_assoc}
+use Rattle.cycle_space.proofs.Booleans.{add2_same, add2_comm, add2_assoc}
 
 -- bit j of a word
 abbrev pub bit_at : ℕ → ℕ → Bool
 bit_at x j = eqb (x / 2 ^ j % 2) 1
 
 pub bit_zero : (k : ℕ) → bit_at 0 k ≡ false
-bit_zero k = by_eqb (λ b. b ≡ false) (0 / 2 ^ k % 2) 1 (λ q. absurd (let z = shr_le 0 k in omega arith)) (λ _. refl)
-
-one_xor : (p q : ℕ) → p < 2 → q < 2 → eqb (bit_xor p q) 1 ≡ add2 (eqb p 1) (eqb q 1)
-one_xor zero zero h k = refl
-one_xor zero (suc zero) h k = refl
-one_xor zero (suc (suc q)) h k = absurd (omega arith)
-one_xor (suc zero) zero h k = refl
-one_xor (suc zero) (suc zero) h k = refl
-one_xor (suc zero) (suc (suc q)) h k = absurd (omega arith)
-one_xor (suc (suc p)) q h k = absurd (omega arith)
-
-one_and : (p q : ℕ) → p < 2 → q < 2 → eqb (bit_and p q) 1 ≡ (eqb p 1 && eqb q 1)
-one_and zero zero h k = refl
-one_and zero (suc zero) h k = refl
-one_and zero (suc (suc q)) h k = absurd (omega arith)
-one_and (suc zero) zero h k = refl
-one_and (suc zero) (suc zero) h k = refl
-one_and (suc zero) (suc (suc q)) h k = absurd (omega arith)
-one_and (suc (suc p)) q h k = absurd (omega arith)
+bit_zero k = ap (λ n. eqb n 1) (bit_at-zero k)
 
 pub bit_at_xor : (x y j : ℕ) → bit_at (bit_xor x y) j ≡ add2 (bit_at x j) (bit_at y j)
-bit_at_xor x y j =
-    ap (λ n. eqb (n % 2) 1) (xor_shr x y j) ∙ ap (λ n. eqb n 1) (xor_mod (x / 2 ^ j) (y / 2 ^ j) 1)
-    ∙ one_xor (x / 2 ^ j % 2) (y / 2 ^ j % 2) (omega arith) (omega arith)
+bit_at_xor x y j = let e = xor_at x y j in grind (arith, nat_tests)
 
 pub bit_at_and : (x y j : ℕ) → bit_at (bit_and x y) j ≡ (bit_at x j && bit_at y j)
-bit_at_and x y j =
-    ap (λ n. eqb (n % 2) 1) (and_shr x y j) ∙ ap (λ n. eqb n 1) (and_mod (x / 2 ^ j) (y / 2 ^ j) 1)
-    ∙ one_and (x / 2 ^ j % 2) (y / 2 ^ j % 2) (omega arith) (omega arith)
+bit_at_and x y j = let e = and_at x y j in grind (arith, nat_tests)
 
 -- the lowest bit, and those above it
 pub bit_low : (n : ℕ) → bit_at n 0 ≡ eqb (n % 2) 1
-bit_low n = ap (λ x. eqb (x % 2) 1) (let q : n / 2 ^ 0 ≡ n = omega arith in q)
+bit_low n = ap (λ x. eqb x 1) (bit_at_lowest n)
 
 pub bit_suc : (n j : ℕ) → bit_at n (suc j) ≡ bit_at (n / 2) j
-bit_suc n j = ap (λ x. eqb (x % 2) 1) (ap (λ x. n / 2 ^ x) (omega arith) ∙ sym (shr-shr n 1 j))
-
-same_low : (a b : ℕ) → eqb (a % 2) 1 ≡ eqb (b % 2) 1 → a % 2 ≡ b % 2
-same_low a b =
-    by_eqb (λ s. s ≡ eqb (b % 2) 1 → a % 2 ≡ b % 2) (a % 2) 1
-    (λ p. by_eqb (λ t. true ≡ t → a % 2 ≡ b % 2) (b % 2) 1 (λ q _. omega arith) (λ q e. absurd (both_ways true e refl)))
-    (λ p. by_eqb (λ t. false ≡ t → a % 2 ≡ b % 2) (b % 2) 1 (λ q e. absurd (both_ways false refl e)) (λ q _. omega arith))
+bit_suc n j = ap (λ x. eqb x 1) (bit_at-suc n j)
 
 -- a word of k bits is known by them
-pub word_known : (k a b : ℕ) → a < 2 ^ k → b < 2 ^ k → ((j : ℕ) → j < k → bit_at a j ≡ bit_at b j) → a ≡ b
-word_known zero a b la lb h = omega arith
-word_known (suc k) a b la lb h =
-    let p = pow-suc 2 k in
-    let low = same_low a b (sym (bit_low a) ∙ h 0 (omega arith) ∙ bit_low b) in
-    let high = word_known k (a / 2) (b / 2) (omega arith) (omega arith) (λ j l. sym (bit_suc a j) ∙ h (suc j) (omega arith) ∙ bit_suc b j) in
-    omega arith
+word_known : (k a b : ℕ) → a < 2 ^ k → b < 2 ^ k → ((j : ℕ) → j < k → bit_at a j ≡ bit_at b j) → a ≡ b
+word_known k a b la lb h = same_from_bits_below k a b la lb (λ j l. let e = h j l in grind (arith, nat_tests))
 
 -- bit j of word q
 pub bit_of_word : (r : Row) (q j : ℕ) → j < 64 → bit r (64 * q + j) ≡ bit_at (get_or r q 0) j
@@ -83,36 +50,30 @@ pub holds_past : (r : Row) → length r ≡ 4 → (j : ℕ) → 256 < j → hold
 holds_past r l zero h = absurd (omega arith)
 holds_past r l (suc j) h = bit_past r l j (omega arith)
 
-pub known_by_pipes : KnownByPipes
-known_by_pipes x y wx wy h =
+pub known_by_bits : (x y : Row) → FourWords x → FourWords y → ((j : ℕ) → j < 256 → bit x j ≡ bit y j) → x ≡ y
+known_by_bits x y wx wy h =
     ext_get_or 0 x y (wx.four ∙ sym wy.four)
-    (λ q _. word_known 64 (get_or x q 0) (get_or y q 0) (wx.words q) (wy.words q)
-    (λ j l. sym (bit_of_word x q j l) ∙ h (suc (64 * q + j)) ∙ bit_of_word y q j l))
+    (λ q l. word_known 64 (get_or x q 0) (get_or y q 0) (wx.words q) (wy.words q)
+    (λ j m. sym (bit_of_word x q j m) ∙ h (64 * q + j) (let four = wx.four in omega arith) ∙ bit_of_word y q j m))
+
+pub known_by_pipes : KnownByPipes
+known_by_pipes x y wx wy h = known_by_bits x y wx wy (λ j _. h (suc j))
 
 -- The row of given bits
-
-at_most_one : (b : Bool) → cond b 1 0 ≤ 1
-at_most_one true = omega arith
-at_most_one false = omega arith
 
 word_lt : (k : ℕ) (f : ℕ → Bool) → word_of k f < 2 ^ k
 unfolding word_of
 word_lt zero f = omega arith
-word_lt (suc k) f = let r = word_lt k (λ j. f (suc j)) in let s = at_most_one (f 0) in let p = pow-suc 2 k in omega arith
+word_lt (suc k) f = let r = word_lt k (λ j. f (suc j)) in let p = pow-suc 2 k in grind arith
 
 word_bit : (k : ℕ) (f : ℕ → Bool) (j : ℕ) → j < k → bit_at (word_of k f) j ≡ f j
 unfolding word_of
 word_bit zero f j l = absurd (omega arith)
-word_bit (suc k) f zero l = bit_low (cond (f 0) 1 0 + 2 * word_of k (λ j. f (suc j))) ∙ low (f 0) (word_of k (λ j. f (suc j)))
-  where
-    low : (b : Bool) (n : ℕ) → eqb ((cond b 1 0 + 2 * n) % 2) 1 ≡ b
-    low true n = ap (λ x. eqb x 1) (let q : (1 + 2 * n) % 2 ≡ 1 = omega arith in q)
-    low false n = ap (λ x. eqb x 1) (let q : (0 + 2 * n) % 2 ≡ 0 = omega arith in q)
+word_bit (suc k) f zero l = let e = bit_low (cond (f 0) 1 0 + 2 * word_of k (λ j. f (suc j))) in grind (arith, nat_tests)
 word_bit (suc k) f (suc j) l =
     let n : ℕ = word_of k (λ j. f (suc j)) in
-    let s = at_most_one (f 0) in
-    bit_suc (cond (f 0) 1 0 + 2 * n) j ∙ ap (λ x. bit_at x j) (let q : (cond (f 0) 1 0 + 2 * n) / 2 ≡ n = omega arith in q)
-    ∙ word_bit k (λ i. f (suc i)) j (omega arith)
+    let half : (cond (f 0) 1 0 + 2 * n) / 2 ≡ n = grind arith in
+    bit_suc (cond (f 0) 1 0 + 2 * n) j ∙ ap (λ x. bit_at x j) half ∙ word_bit k (λ i. f (suc i)) j (omega arith)
 
 pub row_of_words : (f : ℕ → Bool) → FourWords (row_of f)
 unfolding row_of
@@ -125,61 +86,50 @@ row_of_words f = record { four = refl; words = each }
     each (suc (suc (suc zero))) = word_lt 64 (λ j. f (192 + j))
     each (suc (suc (suc (suc k)))) = omega arith
 
-quarter : (q : ℕ) → q < 4 → (q ≡ 0) ⊎ ((q ≡ 1) ⊎ ((q ≡ 2) ⊎ (q ≡ 3)))
-quarter zero h = inl refl
-quarter (suc zero) h = inr (inl refl)
-quarter (suc (suc zero)) h = inr (inr (inl refl))
-quarter (suc (suc (suc zero))) h = inr (inr (inr refl))
-quarter (suc (suc (suc (suc q)))) h = absurd (omega arith)
-
 pub row_bit : (f : ℕ → Bool) (j : ℕ) → j < 256 → bit (row_of f) j ≡ f j
 unfolding bit row_of
-row_bit f j l = elim (quarter (j / 64) (omega arith)) [
-  | inl q ↦ ap (λ k. bit_at (get_or (row_of f) k 0) (j % 64)) q ∙ word_bit 64 f (j % 64) (omega arith) ∙ ap f (omega arith)
-  | inr (inl q) ↦ ap (λ k. bit_at (get_or (row_of f) k 0) (j % 64)) q ∙ word_bit 64 (λ j. f (64 + j)) (j % 64) (omega arith) ∙ ap f (omega arith)
-  | inr (inr (inl q)) ↦ ap (λ k. bit_at (get_or (row_of f) k 0) (j % 64)) q ∙ word_bit 64 (λ j. f (128 + j)) (j % 64) (omega arith) ∙ ap f (omega arith)
-  | inr (inr (inr q)) ↦ ap (λ k. bit_at (get_or (row_of f) k 0) (j % 64)) q ∙ word_bit 64 (λ j. f (192 + j)) (j % 64) (omega arith) ∙ ap f (omega arith)
+row_bit f j l = go (j / 64) refl
+  where
+    go : (q : ℕ) → j / 64 ≡ q → bit_at (get_or (row_of f) q 0) (j % 64) ≡ f j
+    go zero e = word_bit 64 f (j % 64) (omega arith) ∙ ap f (omega arith)
+    go (suc zero) e = word_bit 64 (λ j. f (64 + j)) (j % 64) (omega arith) ∙ ap f (omega arith)
+    go (suc (suc zero)) e = word_bit 64 (λ j. f (128 + j)) (j % 64) (omega arith) ∙ ap f (omega arith)
+    go (suc (suc (suc zero))) e = word_bit 64 (λ j. f (192 + j)) (j % 64) (omega arith) ∙ ap f (omega arith)
+    go (suc (suc (suc (suc q)))) e = absurd (omega arith)
+
+-- where no bit past the row is set
+pub row_bits : (f : ℕ → Bool) → ((j : ℕ) → 256 ≤ j → f j ≡ false) → (j : ℕ) → bit (row_of f) j ≡ f j
+row_bits f h j = elim (dec_lt j 256) [
+  | yes l ↦ row_bit f j l
+  | no l ↦ bit_past (row_of f) (row_of_words f).four j (omega arith) ∙ sym (h j (omega arith))
 ]
 
 -- a row is the row of its bits
 pub row_of_bits : (r : Row) → FourWords r → row_of (bit r) ≡ r
-row_of_bits r w = known_by_pipes (row_of (bit r)) r (row_of_words (bit r)) w each
-  where
-    each : (j : ℕ) → holds (row_of (bit r)) j ≡ holds r j
-    each zero = refl
-    each (suc j) = elim (dec_lt j 256) [
-      | yes l ↦ row_bit (bit r) j l
-      | no l ↦ bit_past (row_of (bit r)) (row_of_words (bit r)).four j (omega arith) ∙ sym (bit_past r w.four j (omega arith))
-    ]
+row_of_bits r w = known_by_bits (row_of (bit r)) r (row_of_words (bit r)) w (row_bit (bit r))
 
 -- The empty set
 
 empty_word : (k : ℕ) → get_or empty k 0 ≡ 0
-empty_word zero = refl
-empty_word (suc zero) = refl
-empty_word (suc (suc zero)) = refl
-empty_word (suc (suc (suc zero))) = refl
-empty_word (suc (suc (suc (suc k)))) = refl
+empty_word k = grind arith
 
 pub empty_bit : (j : ℕ) → bit empty j ≡ false
 unfolding bit
 empty_bit j = ap (λ n. bit_at n (j % 64)) (empty_word (j / 64)) ∙ bit_zero (j % 64)
 
 pub empty_row : FourWords empty
-empty_row = record { four = refl; words = λ k. subst (λ n. n < 2 ^ 64) (sym (empty_word k)) (omega arith) }
+empty_row = record { four = refl; words = λ k. let e = empty_word k in omega arith }
 
 -- The sum
 
 sum_word : (x y : Row) → length x ≡ length y → (q : ℕ) → get_or (sum x y) q 0 ≡ bit_xor (get_or x q 0) (get_or y q 0)
 sum_word [] [] l q = refl
-sum_word [] (b ∷ y) l q = absurd (omega arith)
-sum_word (a ∷ x) [] l q = absurd (omega arith)
 sum_word (a ∷ x) (b ∷ y) l zero = refl
 sum_word (a ∷ x) (b ∷ y) l (suc q) = sum_word x y (omega arith) q
+sum_word x y l q = absurd (omega arith)
 
 sum_length : (x y : Row) → length x ≡ length y → length (sum x y) ≡ length x
-sum_length [] [] l = refl
-sum_length [] (b ∷ y) l = refl
+sum_length [] y l = refl
 sum_length (a ∷ x) [] l = absurd (omega arith)
 sum_length (a ∷ x) (b ∷ y) l = ap suc (sum_length x y (omega arith))
 
@@ -202,18 +152,8 @@ sum_row x y wx wy =
 -- four words with the sums of the words are the sum
 pub sum_of_four : (x y : Row) → length x ≡ 4 → length y ≡ 4
     → bit_xor (get_or x 0 0) (get_or y 0 0) ∷ bit_xor (get_or x 1 0) (get_or y 1 0) ∷ bit_xor (get_or x 2 0) (get_or y 2 0) ∷ bit_xor (get_or x 3 0) (get_or y 3 0) ∷ [] ≡ sum x y
-sum_of_four x y lx ly =
-    let l : length x ≡ length y = lx ∙ sym ly in
-    ext_get_or 0 _ (sum x y) (sym (sum_length x y l ∙ lx)) (λ k h. each k h ∙ sym (sum_word x y l k))
-  where
-    each : (k : ℕ) → k < 4
-        → get_or (bit_xor (get_or x 0 0) (get_or y 0 0) ∷ bit_xor (get_or x 1 0) (get_or y 1 0) ∷ bit_xor (get_or x 2 0) (get_or y 2 0) ∷ bit_xor (get_or x 3 0) (get_or y 3 0) ∷ []) k 0
-        ≡ bit_xor (get_or x k 0) (get_or y k 0)
-    each zero h = refl
-    each (suc zero) h = refl
-    each (suc (suc zero)) h = refl
-    each (suc (suc (suc zero))) h = refl
-    each (suc (suc (suc (suc k)))) h = absurd (omega arith)
+sum_of_four (a ∷ b ∷ c ∷ d ∷ []) (e ∷ f ∷ g ∷ h ∷ []) lx ly = refl
+sum_of_four x y lx ly = absurd (omega arith)
 
 pub sum_laws : SumLaws
 sum_laws = record {

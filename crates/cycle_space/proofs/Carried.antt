@@ -1,16 +1,15 @@
 -- Rings carried over a pairing of the pipes of two nets, and equal counts. Assumes nothing.
-use Rattle.std.proofs.Common.{◌≡◌, ℕ, zero, suc, ◌<◌, ◌≤◌, Bool, true, false, cond, ◌&&◌, eqb, List, map, length, get_or, sym, refl, ap, ◌∙◌, subst, ap₂, inl, inr, arith}
+use Rattle.std.proofs.Common.{◌≡◌, ℕ, zero, suc, ◌<◌, ◌≤◌, Bool, true, cond, ◌&&◌, List, map, length, get_or, sym, refl, ap, ◌∙◌, subst, ap₂, arith}
+use Rattle.cycle_space.proofs.Bits.{row_of_bits}
 use mathlib.Core.Path.{fun_ext}
-use native.Mathlib.Decide.{dec_lt}
 use Rattle.std.proofs.lemmas.List.{length-map, get_or-map}
 use Rattle.cycle_space.specs.Sums.{fold, count}
 use Rattle.cycle_space.specs.Rows.{Row, bit, row_of, empty, add2, odd}
 use Rattle.cycle_space.specs.Moments.{Pipe, Moment, shape, weights, weight}
 use Rattle.cycle_space.specs.Bases.{Closed, Basis}
 use Rattle.cycle_space.specs.Supports.{Sound}
-use Rattle.cycle_space.specs.Rivals.{Links, SamePipes, how_many}
-use Rattle.cycle_space.proofs.Booleans.{add2_comm}
-use Rattle.cycle_space.proofs.Folds.{Comm, bits, numbers, fold_same}
+use Rattle.cycle_space.specs.Rivals.{SamePipes, how_many}
+use Rattle.cycle_space.proofs.Folds.{Comm, bits, numbers, fold_same, dot_add}
 use Rattle.cycle_space.proofs.Counting.{Different, no_more}
 use Rattle.cycle_space.proofs.Linear.{picked, Space, Spans, Rings, Exchanged, Order, Joins}
 use Rattle.cycle_space.proofs.Exchanges.{exchange}
@@ -18,7 +17,7 @@ use Rattle.cycle_space.proofs.Counts.{permuted, more_light}
 use Rattle.cycle_space.proofs.Weights.{heft, weight_heft}
 use Rattle.cycle_space.proofs.Pairings.{Paired, paired, paired_back}
 use Rattle.cycle_space.proofs.Trails.{ends, boundary}
-use Rattle.cycle_space.proofs.Spaces.{none, xors, Cycle, odd_sets, odd_adds, space, bits_back, row_back, to_spans}
+use Rattle.cycle_space.proofs.Spaces.{none, xors, Cycle, odd_sets, space, bits_back, to_spans}
 use Rattle.cycle_space.proofs.Lists.{our_rings, many_count}
 
 -- in one space: two lists of rings that are bases have equally many members at most as heavy as v
@@ -46,11 +45,7 @@ module _ {A V : Type 0} {e : A} {op : A → A → A} {In : A → Type 0} (sp : S
 read_at : (f : ℕ → ℕ) (n : ℕ) (B : ℕ → ℕ → Bool) (s : ℕ → Bool) (j : ℕ) → picked none xors n B s (f j) ≡ picked none xors n (λ i l. B i (f l)) s j
 unfolding fold
 read_at f zero B s j = refl
-read_at f (suc n) B s j = ap₂ add2 (here (s n)) (read_at f n B s j)
-  where
-    here : (b : Bool) → cond b (B n) none (f j) ≡ cond b (λ l. B n (f l)) none j
-    here true = refl
-    here false = refl
+read_at f (suc n) B s j = let r = read_at f n B s j in grind arith
 
 -- what stands past the end of a list of pipes
 abbrev nowhere : {M : Type 0} → M → Pipe M
@@ -64,50 +59,37 @@ module _ {M : Type 0} {zero' : M} {join : M → M → M} (g : Comm zero' join) (
   turns : Different (length n.pipes) (length n.pipes) p.to
   turns = record { within = p.to_in; apart = λ i j _ _ e. sym (p.back i) ∙ ap p.from e ∙ p.back j }
 
-  links_match : (q r : Pipe M) (v : ℕ) → Links q.first q.second r → ends r.first r.second v ≡ ends q.first q.second v
-  links_match q r v (inl e) = ap₂ (λ a b. ends a b v) e.0 e.1
-  links_match q r v (inr e) = ap₂ (λ a b. ends a b v) e.0 e.1 ∙ add2_comm (eqb q.second v) (eqb q.first v)
+  -- a sum over the pipes of one net is one over those of the other
+  carried : {A B : Type 0} {e : A} {op : A → A → A} (h : Comm e op) (f : Pipe M → B) (u u' : ℕ → A) → ((j : ℕ) → j < length n.pipes → u j ≡ u' (p.to j))
+      → fold e op (length (map f n.pipes)) u ≡ fold e op (length (map f n'.pipes)) u'
+  carried {e = e} {op = op} h f u u' same =
+      ap (λ k. fold e op k u) (length-map n.pipes f) ∙ fold_same h (length n.pipes) u (λ j. u' (p.to j)) same
+      ∙ sym (permuted h (length n.pipes) p.to turns u') ∙ ap (λ k. fold e op k u') (p.long ∙ sym (length-map n'.pipes f))
+
+  -- what is read of a pipe
+  seen : {B : Type 0} (f : Pipe M → B) (d : B) (j : ℕ) → j < length n.pipes
+      → (get_or (map f n.pipes) j d ≡ f (get_or n.pipes j (nowhere zero'))) × (get_or (map f n'.pipes) (p.to j) d ≡ f (get_or n'.pipes (p.to j) (nowhere zero')))
+  seen f d j l =
+      (get_or-map f n.pipes j (nowhere zero') d l, get_or-map f n'.pipes (p.to j) (nowhere zero') d (let a = p.to_in j l in let b = p.long in omega arith))
 
   carry_boundary : (x : ℕ → Bool) (v : ℕ) → boundary (shape n) (carry p.to x) v ≡ boundary (shape n') x v
   carry_boundary x v =
-      ap (λ k. fold false add2 k (λ j. x (p.to j) && ends ((shape n).first j) ((shape n).second j) v)) (length-map n.pipes (λ q. q.first))
-      ∙ fold_same bits (length n.pipes) (λ j. x (p.to j) && ends ((shape n).first j) ((shape n).second j) v) (λ j. x (p.to j) && ends ((shape n').first (p.to j)) ((shape n').second (p.to j)) v)
-      (λ j l. ap (λ b. x (p.to j) && b) (same_ends j l))
-      ∙ sym (permuted bits (length n.pipes) p.to turns (λ j. x j && ends ((shape n').first j) ((shape n').second j) v))
-      ∙ ap (λ k. fold false add2 k (λ j. x j && ends ((shape n').first j) ((shape n').second j) v)) (p.long ∙ sym (length-map n'.pipes (λ q. q.first)))
-    where
-      same_ends : (j : ℕ) → j < length n.pipes → ends ((shape n).first j) ((shape n).second j) v ≡ ends ((shape n').first (p.to j)) ((shape n').second (p.to j)) v
-      same_ends j l =
-          let l' : p.to j < length n'.pipes = (let a = p.to_in j l in let b = p.long in omega arith) in
-          ap₂ (λ a b. ends a b v) (get_or-map (λ (q : Pipe M). q.first) n.pipes j (nowhere zero') 0 l) (get_or-map (λ (q : Pipe M). q.second) n.pipes j (nowhere zero') 0 l)
-          ∙ sym (links_match (get_or n.pipes j (nowhere zero')) (get_or n'.pipes (p.to j) (nowhere zero')) v (p.fits j l).links)
-          ∙ sym (ap₂ (λ a b. ends a b v) (get_or-map (λ (q : Pipe M). q.first) n'.pipes (p.to j) (nowhere zero') 0 l') (get_or-map (λ (q : Pipe M). q.second) n'.pipes (p.to j) (nowhere zero') 0 l'))
+      carried bits (λ q. q.first) (λ j. x (p.to j) && ends ((shape n).first j) ((shape n).second j) v) (λ j. x j && ends ((shape n').first j) ((shape n').second j) v)
+      (λ j l. let a = seen (λ q. q.first) 0 j l in let b = seen (λ q. q.second) 0 j l in let m = (p.fits j l).links in grind arith)
 
   carry_heft : (x : ℕ → Bool) → heft zero' join (weights n) (carry p.to x) ≡ heft zero' join (weights n') x
   carry_heft x =
-      ap (λ k. fold zero' join k (λ j. cond (x (p.to j)) (get_or (weights n) j zero') zero')) (length-map n.pipes (λ q. q.weight))
-      ∙ fold_same g (length n.pipes) (λ j. cond (x (p.to j)) (get_or (weights n) j zero') zero') (λ j. cond (x (p.to j)) (get_or (weights n') (p.to j) zero') zero')
-      (λ j l. ap (λ w. cond (x (p.to j)) w zero') (same_weight j l))
-      ∙ sym (permuted g (length n.pipes) p.to turns (λ j. cond (x j) (get_or (weights n') j zero') zero'))
-      ∙ ap (λ k. fold zero' join k (λ j. cond (x j) (get_or (weights n') j zero') zero')) (p.long ∙ sym (length-map n'.pipes (λ q. q.weight)))
-    where
-      same_weight : (j : ℕ) → j < length n.pipes → get_or (weights n) j zero' ≡ get_or (weights n') (p.to j) zero'
-      same_weight j l =
-          let l' : p.to j < length n'.pipes = (let a = p.to_in j l in let b = p.long in omega arith) in
-          get_or-map (λ (q : Pipe M). q.weight) n.pipes j (nowhere zero') zero' l
-          ∙ sym (p.fits j l).weighs
-          ∙ sym (get_or-map (λ (q : Pipe M). q.weight) n'.pipes (p.to j) (nowhere zero') zero' l')
+      carried g (λ q. q.weight) (λ j. cond (x (p.to j)) (get_or (weights n) j zero') zero') (λ j. cond (x j) (get_or (weights n') j zero') zero')
+      (λ j l. let a = seen (λ q. q.weight) zero' j l in let m = (p.fits j l).weighs in grind arith)
 
   carry_cycle : (x : ℕ → Bool) → Cycle (shape n') x → Cycle (shape n) (carry p.to x)
   carry_cycle x c = record {
     closed = λ v. carry_boundary x v ∙ c.closed v;
-    bounded = λ j l. elim (dec_lt (p.to j) (length n'.pipes)) [
-      | yes h ↦ absurd (
-          let a = p.from_in (p.to j) (let e = p.long in omega arith) in
-          let b = p.back j in
-          let e = length-map n.pipes (λ q. q.first) in omega arith)
-      | no h ↦ c.bounded (p.to j) (let e = length-map n'.pipes (λ q. q.first) in omega arith)
-    ];
+    bounded = λ j l. c.bounded (p.to j) (
+        let a = p.from_in (p.to j) in
+        let b = p.back j in
+        let e = p.long in
+        grind (arith, length-map n.pipes (λ q. q.first), length-map n'.pipes (λ q. q.first)));
   }
 
 -- rings and bases of the second net are rings and bases of the first
@@ -171,14 +153,14 @@ module _ {M : Type 0} {zero' : M} {join : M → M → M} {within : M → M → B
       let S' : ℕ → (ℕ → Bool) → Bool = λ i. odd_sets (bit (support' i)) in
       many_count js n v ours
       ∙ fold_same numbers (length ours) (λ i. cond (within (weight zero' join n (get_or ours i empty)) v) 1 0) (λ i. cond (within (w (C i)) v) 1 0)
-      (λ i l. ap (λ a. cond (within (weight zero' join n a) v) 1 0) (sym (row_back (shape n).pipes (get_or ours i empty) (s.closed i l).of_pipes)))
+      (λ i l. ap (λ a. cond (within (weight zero' join n a) v) 1 0) (sym (row_of_bits (get_or ours i empty) (s.closed i l).of_pipes.words)))
       ∙ same_counts (space (shape n)) js.order w
-      (λ i. odd_sets (bit (support i))) (λ i. odd_adds (bit (support i))) (length ours) C (our_rings js n ours support s least) (to_spans (shape n) few ours b)
-      (λ i x. S' i (λ j. x (p.from j))) (λ i x y. odd_adds (bit (support' i)) (λ j. x (p.from j)) (λ j. y (p.from j))) (length ours') (λ i j. C' i (p.to j))
+      (λ i. odd_sets (bit (support i))) (λ i. dot_add 256 (bit (support i))) (length ours) C (our_rings js n ours support s least) (to_spans (shape n) few ours b)
+      (λ i x. S' i (λ j. x (p.from j))) (λ i x y. dot_add 256 (bit (support' i)) (λ j. x (p.from j)) (λ j. y (p.from j))) (length ours') (λ i j. C' i (p.to j))
       (to_rings js n n' p few few' S' (length ours') C' (our_rings js n' ours' support' s' least'))
       (to_basis js n n' p few few' (length ours') C' (to_spans (shape n') few' ours' b')) v
       ∙ fold_same numbers (length ours') (λ i. cond (within (w (λ j. C' i (p.to j))) v) 1 0) (λ i. cond (within (weight zero' join n' (get_or ours' i empty)) v) 1 0)
       (λ i l. ap (λ a. cond (within a v) 1 0)
       (to_weight js n n' p few few' (C' i) ((our_rings js n' ours' support' s' least').inside i l)
-      ∙ ap (weight zero' join n') (row_back (shape n').pipes (get_or ours' i empty) (s'.closed i l).of_pipes)))
+      ∙ ap (weight zero' join n') (row_of_bits (get_or ours' i empty) (s'.closed i l).of_pipes.words)))
       ∙ sym (many_count js n' v ours')

@@ -1,10 +1,12 @@
 -- Closing pipes: a closed set without one is empty, and each has a closed set of its own. Assumes nothing.
-use Rattle.std.proofs.Common.{◌≡◌, ℕ, zero, suc, ◌+◌, ◌<◌, ◌≤◌, Bool, true, false, eqb, ◌⊎◌, sym, refl, ap, ◌∙◌, subst, ap₂, inl, inr, arith, eqb-true}
+use Rattle.std.proofs.Common.{◌≡◌, ℕ, zero, suc, ◌+◌, ◌<◌, ◌≤◌, Bool, true, false, eqb, sym, refl, ap, ◌∙◌, subst, ap₂, inl, inr, arith, eqb-true}
+use Rattle.std.proofs.lemmas.Bool.{cases_Bool}
+use Rattle.std.proofs.lemmas.Bool.Decides.{nat_tests}
 use borrow.Author.Tests.{both_ways}
 use Rattle.cycle_space.specs.Rows.{add2}
 use Rattle.cycle_space.specs.Shapes.{Shape, Run, stay, cross, Closing}
 use Rattle.cycle_space.specs.Labels.{closes}
-use Rattle.cycle_space.proofs.Booleans.{by_eqb, by_le, not_so, eqb_same, add2_same, add2_false, add2_cut, either}
+use Rattle.cycle_space.proofs.Booleans.{by_eqb, not_so, eqb_same, add2_same, add2_cut, either}
 use Rattle.cycle_space.proofs.Labels.{closing_decided}
 use Rattle.cycle_space.proofs.Counting.{flip}
 use Rattle.cycle_space.proofs.Trails.{ends, boundary, Even, Inside, bd_add, bd_one, bd_none, bd_flip, ends_same, ends_cross, every_map, flip_in, trail, opened, walk_run}
@@ -16,11 +18,7 @@ highest : (N : Shape) (x : ℕ → Bool) → Even N x → (k : ℕ) → k < N.pi
 highest N x h k l e above =
     let t = trail N (flip x k) (N.first k) (N.second k) (opened N x h k l) in
     walk_run N k t.0 (N.first k) (N.second k) t.1
-    (every_map (Inside N (flip x k)) (λ j. j < k) (λ j p. let r = flip_in x k j e p.1 in by j p.0 r.0 r.1 (by_le j k)) t.0 t.2)
-  where
-    by : (j : ℕ) → j < N.pipes → x j ≡ true → (j ≡ k → ⊥) → (j ≤ k) ⊎ (k ≤ j) → j < k
-    by j lj xj ne (inl le) = omega arith
-    by j lj xj ne (inr le) = absurd (both_ways (x j) (above j (omega arith) lj) xj)
+    (every_map (Inside N (flip x k)) (λ j. j < k) (λ j p. let r = flip_in x k j e p.1 in let hi = above j in let lj = p.0 in grind arith) t.0 t.2)
 
 down : (N : Shape) (x : ℕ → Bool) → Even N x → ((j : ℕ) → j < N.pipes → x j ≡ true → Closing N j → ⊥)
     → (d k : ℕ) → N.pipes ≤ k + d → (i : ℕ) → k ≤ i → i < N.pipes → x i ≡ false
@@ -59,11 +57,10 @@ tree_run N k f s t (cross j u l c r) =
     tree_then N k s u t (x.0, x.1, λ v. x.2 v ∙ ends_cross N j s u c v) (tree_run N k f u t r)
 
 tree_at : (N : Shape) (k : ℕ) → k < N.pipes → ((j : ℕ) → j < k → Tree N k (N.first j) (N.second j)) → Tree N (suc k) (N.first k) (N.second k)
-tree_at N k l f = go (closes N k) refl
-  where
-    go : (b : Bool) → closes N k ≡ b → Tree N (suc k) (N.first k) (N.second k)
-    go true e = tree_up N k (N.first k) (N.second k) (tree_run N k f (N.first k) (N.second k) ((closing_decided N k).0 e))
-    go false e = (λ i. eqb i k, λ j h. let q = eqb-true j k h in (omega arith, ap (closes N) q ∙ e), bd_one N k l)
+tree_at N k l f = elim (cases_Bool (closes N k)) [
+  | inl e ↦ tree_up N k (N.first k) (N.second k) (tree_run N k f (N.first k) (N.second k) ((closing_decided N k).0 e))
+  | inr e ↦ (λ i. eqb i k, λ j h. let q = eqb-true j k h in (omega arith, ap (closes N) q ∙ e), bd_one N k l)
+]
 
 trees : (N : Shape) (k : ℕ) → k ≤ N.pipes → (j : ℕ) → j < k → Tree N k (N.first j) (N.second j)
 trees N zero l j h = absurd (omega arith)
@@ -82,8 +79,6 @@ fundamental N i l c =
       flip t.0 i,
       λ w. bd_flip N t.0 i l w ∙ ap (λ b. add2 b (ends (N.first i) (N.second i) w)) (t.2 w) ∙ add2_same (ends (N.first i) (N.second i) w),
       ap₂ add2 own (eqb_same i),
-      (λ j e. by_eqb (λ b. add2 (t.0 j) b ≡ true → j ≤ i) j i (λ q _. omega arith)
-          (λ _ k. let r = t.1 j (sym (add2_false (t.0 j)) ∙ k) in omega arith) e),
-      (λ j e cj. by_eqb (λ b. add2 (t.0 j) b ≡ true → j ≡ i) j i (λ q _. q)
-          (λ _ k. absurd (both_ways (closes N j) (t.1 j (sym (add2_false (t.0 j)) ∙ k)).1 ((closing_decided N j).1 cj))) e),
+      (λ j e. let r = t.1 j in grind (arith, nat_tests)),
+      (λ j e cj. let r = t.1 j in let c = (closing_decided N j).1 cj in grind (arith, nat_tests)),
     )

@@ -1,11 +1,15 @@
--- How many of the numbers below n pass a test. Assumes nothing.
-use Rattle.std.proofs.Common.{◌≡◌, ℕ, zero, suc, ◌+◌, ◌<◌, ◌≤◌, Bool, true, false, cond, eqb, ◌↔◌, sym, refl, ap, ◌∙◌, subst, ap₂, arith, ne_eqb}
+-- How many of the numbers below n pass a test, and choices for the numbers below k. Assumes nothing.
+use Rattle.std.proofs.Common.{◌≡◌, ℕ, zero, suc, ◌+◌, ◌<◌, ◌≤◌, Bool, true, false, cond, eqb, ◌↔◌, List, map, get_or, sym, refl, ap, ◌∙◌, subst, arith}
+use Rattle.std.specs.List.{range_with_len}
+use Rattle.std.proofs.lemmas.List.FromFn.{get_or-map-range_with_len}
+use Rattle.std.proofs.lemmas.Bool.{cond_both}
 use native.Mathlib.Decide.{dec_lt}
 use borrow.Author.Tests.{both_ways}
+use Rattle.std.proofs.lemmas.Bool.Decides.{nat_tests}
 use Rattle.cycle_space.specs.Sums.{fold, count}
 use Rattle.cycle_space.specs.Rows.{add2}
 use Rattle.cycle_space.specs.Shapes.{Exactly, none, one, other}
-use Rattle.cycle_space.proofs.Booleans.{by_eqb, eqb_same, not_so, add2_false}
+use Rattle.cycle_space.proofs.Booleans.{by_eqb}
 use Rattle.cycle_space.proofs.Folds.{numbers, fold_same, fold_none, fold_front}
 
 pub count_same : (n : ℕ) (u v : ℕ → Bool) → ((i : ℕ) → i < n → u i ≡ v i) → count n u ≡ count n v
@@ -14,16 +18,12 @@ count_same n u v h = fold_same numbers n (λ i. cond (u i) 1 0) (λ i. cond (v i
 pub count_le : (n : ℕ) (x : ℕ → Bool) → count n x ≤ n
 unfolding fold
 count_le zero x = omega arith
-count_le (suc n) x = go (x n) (count_le n x)
-  where
-    go : (b : Bool) → count n x ≤ n → cond b 1 0 + count n x ≤ suc n
-    go true h = omega arith
-    go false h = omega arith
+count_le (suc n) x = let r = count_le n x in grind arith
 
 pub count_all : (n : ℕ) (x : ℕ → Bool) → ((i : ℕ) → i < n → x i ≡ true) → count n x ≡ n
 unfolding fold
 count_all zero x h = refl
-count_all (suc n) x h = ap₂ (λ b k. cond b 1 0 + k) (h n (omega arith)) (count_all n x (λ i l. h i (omega arith))) ∙ omega arith
+count_all (suc n) x h = let r = count_all n x in grind arith
 
 pub count_front : (n : ℕ) (x : ℕ → Bool) → count (suc n) x ≡ cond (x 0) 1 0 + count n (λ i. x (suc i))
 count_front n x = fold_front numbers n (λ i. cond (x i) 1 0)
@@ -36,49 +36,34 @@ pub count_out : (n : ℕ) (u : ℕ → Bool) (i : ℕ) → i < n → u i ≡ tru
 unfolding fold
 count_out zero u i h e = absurd (omega arith)
 count_out (suc n) u i h e =
-    by_eqb (λ t. suc (cond (add2 (u n) t) 1 0 + count n (flip u i)) ≡ cond (u n) 1 0 + count n u) n i
-    (λ q. subst (λ b. suc (cond (add2 b true) 1 0 + count n (flip u i)) ≡ cond b 1 0 + count n u) (sym (ap u q ∙ e))
-    (let same = count_same n (flip u i) u (λ j l. ap (add2 (u j)) (ne_eqb j i (λ p. omega arith)) ∙ add2_false (u j)) in omega arith))
-    (λ q. go (u n) (count_out n u i (omega arith) e))
-  where
-    go : (b : Bool) → suc (count n (flip u i)) ≡ count n u → suc (cond (add2 b false) 1 0 + count n (flip u i)) ≡ cond b 1 0 + count n u
-    go true k = omega arith
-    go false k = omega arith
+    let r = count_out n u i in
+    let same : ((j : ℕ) → j < n → j ≡ i → ⊥) → count n (flip u i) ≡ count n u = λ h. count_same n (flip u i) u (λ j l. let k = h j l in grind (arith, nat_tests)) in
+    grind (arith, nat_tests)
 
 -- a test that passes wherever the other does counts no less
 pub count_less : (n : ℕ) (u v : ℕ → Bool) → ((i : ℕ) → i < n → u i ≡ true → v i ≡ true) → count n u ≤ count n v
 unfolding fold
 count_less zero u v h = omega arith
-count_less (suc n) u v h = go (count_less n u v (λ i l. h i (omega arith))) (u n) refl (v n) refl
-  where
-    go : count n u ≤ count n v → (b : Bool) → u n ≡ b → (c : Bool) → v n ≡ c → cond b 1 0 + count n u ≤ cond c 1 0 + count n v
-    go rest true p true q = omega arith
-    go rest true p false q = absurd (both_ways (v n) q (h n (omega arith) p))
-    go rest false p true q = omega arith
-    go rest false p false q = omega arith
+count_less (suc n) u v h = let r = count_less n u v in let here = h n in grind arith
 
 -- The numbers that pass, in their order
 
 pub count_up : (x : ℕ → Bool) (j l : ℕ) → j ≤ l → count j x ≤ count l x
 unfolding fold
-count_up x j zero h = subst (λ i. count i x ≤ 0) (let q : 0 ≡ j = omega arith in q) (omega arith)
-count_up x j (suc l) h =
-    by_eqb (λ _. count j x ≤ count (suc l) x) j (suc l) (λ q. subst (λ i. count i x ≤ count (suc l) x) (sym q) (omega arith))
-    (λ ne. let r = count_up x j l (omega arith) in omega arith)
+count_up x j zero h = grind arith
+count_up x j (suc l) h = let r = count_up x j l in by_eqb (λ _. count j x ≤ count (suc l) x) j (suc l) (λ q. grind arith) (λ ne. grind arith)
 
 pub count_at : (x : ℕ → Bool) (j : ℕ) → x j ≡ true → count (suc j) x ≡ suc (count j x)
 unfolding fold
-count_at x j h = ap (λ b. cond b 1 0 + count j x) h ∙ omega arith
+count_at x j h = grind arith
+
+-- one that passes has fewer before it
+pub count_before : (x : ℕ → Bool) (n j : ℕ) → j < n → x j ≡ true → count j x < count n x
+count_before x n j l h = let one = count_at x j h in let up = count_up x (suc j) n l in omega arith
 
 -- two that pass, with equally many before them, are one
 pub count_same_place : (x : ℕ → Bool) (j l : ℕ) → x j ≡ true → x l ≡ true → count j x ≡ count l x → j ≡ l
-count_same_place x j l hj hl e =
-    let one = count_at x j hj in
-    let two = count_at x l hl in
-    elim (dec_lt j l) [
-      | yes lt ↦ absurd (let m = count_up x (suc j) l lt in omega arith)
-      | no ge ↦ elim (dec_lt l j) [ yes lt ↦ absurd (let m = count_up x (suc l) j lt in omega arith) | no le ↦ omega arith ]
-    ]
+count_same_place x j l hj hl e = let less = count_before x l j in let more = count_before x j l in grind arith
 
 -- the one that has i before it
 pub count_find : (x : ℕ → Bool) (m i : ℕ) → i < count m x → (j : ℕ) × (j < m) × (x j ≡ true) × (count j x ≡ i)
@@ -112,17 +97,14 @@ hit f (suc k) j = cond (eqb j (f k)) true (hit f k j)
 
 pub fresh : (f : ℕ → ℕ) (k j : ℕ) → ((i : ℕ) → i < k → f i ≡ j → ⊥) → hit f k j ≡ false
 fresh f zero j h = refl
-fresh f (suc k) j h =
-    by_eqb (λ t. cond t true (hit f k j) ≡ false) j (f k) (λ q. absurd (h k (omega arith) (sym q))) (λ _. fresh f k j (λ i l. h i (omega arith)))
+fresh f (suc k) j h = let r = fresh f k j in grind (arith, nat_tests)
 
 pub hits : (n : ℕ) (f : ℕ → ℕ) (k : ℕ) → Different k n f → count n (hit f k) ≡ k
 hits n f zero d = fold_none numbers n (λ j. cond (hit f zero j) 1 0) (λ _ _. refl)
 hits n f (suc k) d =
     let new = fresh f k (f k) (λ i l q. let e = d.apart i k (omega arith) (omega arith) q in omega arith) in
-    let out = count_out n (hit f (suc k)) (f k) (d.within k (omega arith)) (ap (λ b. cond b true (hit f k (f k))) (eqb_same (f k))) in
-    let still : (j : ℕ) → flip (hit f (suc k)) (f k) j ≡ hit f k j =
-    λ j. by_eqb (λ t. add2 (cond t true (hit f k j)) t ≡ hit f k j) j (f k) (λ q. sym (ap (hit f k) q ∙ new)) (λ _. add2_false (hit f k j)) in
-    let rest = count_same n (flip (hit f (suc k)) (f k)) (hit f k) (λ j _. still j) in
+    let out = count_out n (hit f (suc k)) (f k) (d.within k (omega arith)) (grind (arith, nat_tests)) in
+    let rest = count_same n (flip (hit f (suc k)) (f k)) (hit f k) (λ j _. grind (arith, nat_tests)) in
     let ih = hits n f k (fewer d) in
     omega arith
 
@@ -140,51 +122,45 @@ choose (suc k) P g =
       λ i l. by_eqb (λ b. P i (cond b t.0 (r.0 i))) i k (λ q. subst (λ a. P a t.0) (sym q) t.1) (λ ne. r.1 i (omega arith)),
     )
 
+-- their list
+abbrev pub listed : {A : Type 0} → ℕ → (ℕ → A) → List A
+listed n s = map s (range_with_len 0 n)
+
+pub listed_at : {A : Type 0} (n : ℕ) (s : ℕ → A) (d : A) (i : ℕ) → i < n → get_or (listed n s) i d ≡ s i
+listed_at n s d i l = get_or-map-range_with_len s 0 n i i d l (omega arith)
+
 -- Where the test decides a predicate, exactly so many numbers are such
 
 module _ {Such : ℕ → Type 0} (x : ℕ → Bool) (decides : (i : ℕ) → (x i ≡ true) ↔ Such i) where
   pub exactly_count : (n : ℕ) → Exactly Such n (count n x)
   unfolding fold
   exactly_count zero = none refl refl
-  exactly_count (suc n) = go (x n) refl (exactly_count n)
-    where
-      go : (b : Bool) → x n ≡ b → Exactly Such n (count n x) → Exactly Such (suc n) (cond b 1 0 + count n x)
-      go true e r = one n (count n x) refl (omega arith) ((decides n).0 e) r
-      go false e r = other n refl (λ s. both_ways (x n) e ((decides n).1 s)) (subst (Exactly Such n) (omega arith) r)
+  exactly_count (suc n) =
+      let r = exactly_count n in
+      cond_both (x n) 1 0 (λ c. Exactly Such (suc n) (c + count n x)) (λ e. one n (count n x) refl (omega arith) ((decides n).0 e) r)
+      (λ e. other n refl (λ s. both_ways (x n) e ((decides n).1 s)) (subst (Exactly Such n) (omega arith) r))
 
   pub count_exactly : (n k : ℕ) → Exactly Such n k → k ≡ count n x
   unfolding fold
   count_exactly n k (none e q) = q ∙ ap (λ m. count m x) (sym e)
   count_exactly n k (one m l e q s r) =
-      let ih = count_exactly m l r in
-      q ∙ ap suc ih ∙ (omega arith) ∙ sym (ap (λ b. cond b 1 0 + count m x) ((decides m).1 s)) ∙ ap (λ m. count m x) (sym e)
+      let ih = count_exactly m l r in let at = (decides m).1 s in grind arith
   count_exactly n k (other m e isnt r) =
-      count_exactly m k r ∙ (omega arith) ∙ sym (ap (λ b. cond b 1 0 + count m x) (not_so (x m) (λ q. isnt ((decides m).0 q)))) ∙ ap (λ m. count m x) (sym e)
+      let ih = count_exactly m k r in let at = (decides m).0 in grind arith
 
 -- All of them, and one that is left
 
 pub count_full : (n : ℕ) (x : ℕ → Bool) → count n x ≡ n → (j : ℕ) → j < n → x j ≡ true
 unfolding fold
 count_full zero x q j l = absurd (omega arith)
-count_full (suc n) x q j l = go (x n) refl q (count_le n x) (count_full n x)
-  where
-    go : (b : Bool) → x n ≡ b → cond b 1 0 + count n x ≡ suc n → count n x ≤ n → (count n x ≡ n → (j : ℕ) → j < n → x j ≡ true) → x j ≡ true
-    go true e p few ih = by_eqb (λ _. x j ≡ true) j n (λ s. ap x s ∙ e) (λ ne. ih (omega arith) j (omega arith))
-    go false e p few ih = absurd (omega arith)
+count_full (suc n) x q j l = let few = count_le n x in let r = count_full n x in grind arith
 
 pub count_left : (n : ℕ) (x : ℕ → Bool) → count n x < n → (j : ℕ) × (j < n) × (x j ≡ false)
 unfolding fold
 count_left zero x q = absurd (omega arith)
-count_left (suc n) x q = go (x n) refl q (count_left n x)
-  where
-    go : (b : Bool) → x n ≡ b → cond b 1 0 + count n x < suc n → (count n x < n → (j : ℕ) × (j < n) × (x j ≡ false)) → (j : ℕ) × (j < suc n) × (x j ≡ false)
-    go true e p ih = let r = ih (omega arith) in (r.0, omega arith, r.2)
-    go false e p ih = (n, omega arith, e)
+count_left (suc n) x q = let r = count_left n x in grind arith
 
 -- what is not hit is none of them
 pub hit_fresh : (f : ℕ → ℕ) (k j : ℕ) → hit f k j ≡ false → (i : ℕ) → i < k → f i ≡ j → ⊥
 hit_fresh f zero j h i l q = omega arith
-hit_fresh f (suc k) j h i l q =
-    by_eqb (λ t. cond t true (hit f k j) ≡ false → ⊥) j (f k)
-    (λ _ p. both_ways true p refl)
-    (λ ne p. by_eqb (λ _. ⊥) i k (λ same. ne (sym q ∙ ap f same)) (λ other. hit_fresh f k j p i (omega arith) q)) h
+hit_fresh f (suc k) j h i l q = let r = hit_fresh f k j in grind (arith, nat_tests)

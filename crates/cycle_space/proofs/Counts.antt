@@ -1,13 +1,14 @@
 -- Sums over different places, the size of bases, and what is counted and joined over them. Assumes nothing.
 use Rattle.std.proofs.Common.{◌≡◌, ℕ, zero, suc, ◌<◌, ◌≤◌, Bool, true, false, cond, ◌&&◌, eqb, sym, refl, ap, ◌∙◌, subst, ap₂, inl, inr, arith}
+use Rattle.std.proofs.lemmas.Bool.Decides.{nat_tests}
 use borrow.Author.Tests.{both_ways}
 use Rattle.cycle_space.specs.Sums.{fold, count}
 use Rattle.cycle_space.specs.Rows.{add2}
-use Rattle.cycle_space.proofs.Booleans.{by_eqb, eqb_same, and_false}
+use Rattle.cycle_space.proofs.Booleans.{eqb_same}
 use Rattle.cycle_space.proofs.Folds.{Comm, numbers, right, fold_same, fold_none, fold_lone, fold_out, fold_rel}
-use Rattle.cycle_space.proofs.Counting.{Different, hit, fresh, hits, hit_fresh, fewer, no_more, count_full, count_left}
+use Rattle.cycle_space.proofs.Counting.{Different, hit, fresh, hits, hit_fresh, fewer, no_more, count_less, count_full, count_left}
 use Rattle.cycle_space.proofs.Linear.{picked, Space, Spans, replaced, Exchanged, Order, Joins}
-use Rattle.cycle_space.proofs.Bases.{picked_add}
+use Rattle.cycle_space.proofs.Bases.{picked_add, picked_and}
 use Rattle.cycle_space.proofs.Exchanges.{origin}
 
 module _ {M : Type 0} {e : M} {op : M → M → M} (g : Comm e op) where
@@ -17,20 +18,12 @@ module _ {M : Type 0} {e : M} {op : M → M → M} (g : Comm e op) where
   unfolding fold
   fold_hit n u f zero d = sym (g.left (fold e op n u))
   fold_hit n u f (suc k) d =
-      let a : M = fold e op k (λ i. u (f i)) in
       let v : ℕ → M = λ j. cond (hit f k j) e (u j) in
-      let rest : M = fold e op n (λ j. cond (hit f (suc k) j) e (u j)) in
-      fold_hit n u f k (fewer d)
-      ∙ ap (op a)
-      (fold_out g n (f k) v (d.within k (omega arith))
-      ∙ ap₂ op
-      (ap (λ b. cond b e (u (f k))) (fresh f k (f k) (λ i l q. absurd (apart_not i k l (d.apart i k (omega arith) (omega arith) q)))))
-      (fold_same g n (λ j. cond (eqb j (f k)) e (v j)) (λ j. cond (hit f (suc k) j) e (u j))
-      (λ j _. by_eqb (λ t. cond t e (cond (hit f k j) e (u j)) ≡ cond (cond t true (hit f k j)) e (u j)) j (f k) (λ _. refl) (λ _. refl))))
-      ∙ sym (g.assoc a (u (f k)) rest) ∙ ap (λ x. op x rest) (g.comm a (u (f k)))
-    where
-      apart_not : (i k : ℕ) → i < k → i ≡ k → ⊥
-      apart_not i k l q = omega arith
+      let new = fresh f k (f k) (λ i l q. let r = d.apart i k (omega arith) (omega arith) q in omega arith) in
+      let ih = fold_hit n u f k (fewer d) in
+      let out = fold_out g n (f k) v (d.within k (omega arith)) in
+      let left = fold_same g n (λ j. cond (eqb j (f k)) e (v j)) (λ j. cond (hit f (suc k) j) e (u j)) (λ j _. grind (arith, nat_tests)) in
+      grind (arith, g.assoc, g.comm)
 
 -- a sum in another order
 pub permuted : {M : Type 0} {e : M} {op : M → M → M} (g : Comm e op) (n : ℕ) (f : ℕ → ℕ) → Different n n f → (u : ℕ → M)
@@ -48,14 +41,13 @@ spread f t (suc k) l = add2 (t k && eqb l (f k)) (spread f t k l)
 
 spread_fresh : (f : ℕ → ℕ) (t : ℕ → Bool) (k l : ℕ) → ((i : ℕ) → i < k → f i ≡ l → ⊥) → spread f t k l ≡ false
 spread_fresh f t zero l h = refl
-spread_fresh f t (suc k) l h =
-    ap₂ add2 (by_eqb (λ b. (t k && b) ≡ false) l (f k) (λ q. absurd (h k (omega arith) (sym q))) (λ _. and_false (t k))) (spread_fresh f t k l (λ i il. h i (omega arith)))
+spread_fresh f t (suc k) l h = let r = spread_fresh f t k l in let ne = h k in grind (arith, nat_tests)
 
 module _ {M : Type 0} {e : M} {op : M → M → M} {In : M → Type 0} (sp : Space e op In) where
   one_picked : (n : ℕ) (B : ℕ → M) (i : ℕ) → i < n → picked e op n B (λ l. eqb l i) ≡ B i
   one_picked n B i h =
       fold_same sp.group n (λ l. cond (eqb l i) (B l) e) (λ l. cond (eqb l i) (B i) e)
-      (λ l _. by_eqb (λ b. cond b (B l) e ≡ cond b (B i) e) l i (λ q. ap B q) (λ _. refl))
+      (λ l _. grind (arith, nat_tests))
       ∙ fold_lone sp.group n i (B i) h
 
   spread_sum : (n : ℕ) (B : ℕ → M) (f : ℕ → ℕ) (t : ℕ → Bool) (k : ℕ) → ((i : ℕ) → i < k → f i < n)
@@ -64,11 +56,8 @@ module _ {M : Type 0} {e : M} {op : M → M → M} {In : M → Type 0} (sp : Spa
   spread_sum n B f t zero h = fold_none sp.group n (λ _. e) (λ _ _. refl)
   spread_sum n B f t (suc k) h =
       picked_add sp n B (λ l. t k && eqb l (f k)) (spread f t k)
-      ∙ ap₂ op (here (t k)) (spread_sum n B f t k (λ i l. h i (omega arith)))
-    where
-      here : (b : Bool) → picked e op n B (λ l. b && eqb l (f k)) ≡ cond b (B (f k)) e
-      here true = one_picked n B (f k) (h k (omega arith))
-      here false = fold_none sp.group n (λ _. e) (λ _ _. refl)
+      ∙ ap₂ op (picked_and sp n B (λ l. eqb l (f k)) (t k) ∙ ap (λ x. cond (t k) x e) (one_picked n B (f k) (h k (omega arith))))
+      (spread_sum n B f t k (λ i l. h i (omega arith)))
 
   module _ {V : Type 0} {leq : V → V → Bool} {w : M → V} {d : ℕ} {C : ℕ → M} (c : Spans e op In d C) {n : ℕ} {B : ℕ → M} {f : ℕ → ℕ}
       (ex : Exchanged e op In leq w d C n B f) where
@@ -92,10 +81,7 @@ module _ {M : Type 0} {e : M} {op : M → M → M} {In : M → Type 0} (sp : Spa
         both_ways true (sym (eqb_same j) ∙ same ∙ spread_fresh f t d j unhit) refl
 
     pub same_size : n ≡ d
-    same_size = by_lt (no_more ex.places) not_less
-      where
-        by_lt : d ≤ n → (d < n → ⊥) → n ≡ d
-        by_lt p q = omega arith
+    same_size = let up = no_more ex.places in let down = not_less in grind arith
 
 -- at equally many places, heavier members: counts and joined weights
 module _ {V : Type 0} {leq : V → V → Bool} (o : Order leq) where
@@ -103,13 +89,7 @@ module _ {V : Type 0} {leq : V → V → Bool} (o : Order leq) where
       → count n (λ i. leq (b i) v) ≤ count n (λ i. leq (a i) v)
   more_light n a b f d h v =
       subst (λ x. x ≤ count n (λ i. leq (a i) v)) (sym (permuted numbers n f d (λ i. cond (leq (b i) v) 1 0)))
-      (fold_rel numbers ◌≤◌ (omega arith) (λ _ _ _ _ p q. omega arith) n (λ i. cond (leq (b (f i)) v) 1 0) (λ i. cond (leq (a i) v) 1 0)
-      (λ i l. step (leq (b (f i)) v) (leq (a i) v) (λ p. o.trans (a i) (b (f i)) v (h i l) p)))
-    where
-      step : (x y : Bool) → (x ≡ true → y ≡ true) → cond x 1 0 ≤ cond y 1 0
-      step true true k = omega arith
-      step true false k = absurd (both_ways false refl (k refl))
-      step false y k = omega arith
+      (count_less n (λ i. leq (b (f i)) v) (λ i. leq (a i) v) (λ i l p. o.trans (a i) (b (f i)) v (h i l) p))
 
 module _ {V : Type 0} {leq : V → V → Bool} {least : V} {join : V → V → V} (js : Joins leq least join) where
   refl_leq : (a : V) → leq a a ≡ true

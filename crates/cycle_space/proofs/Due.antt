@@ -1,11 +1,12 @@
 -- The due number: there is one, and it is the number of closing pipes. Assumes nothing.
-use Rattle.std.proofs.Common.{◌≡◌, ℕ, zero, suc, ◌+◌, ◌<◌, ◌≤◌, min, max, Bool, true, false, cond, eqb, ◌⊎◌, sym, refl, ap, ◌∙◌, subst, inl, inr, arith, eq-eqb, ne_eqb, eqb-true}
+use Rattle.std.proofs.Common.{◌≡◌, ℕ, zero, suc, ◌+◌, ◌≤◌, max, Bool, eqb, sym, subst, arith}
+use Rattle.std.proofs.lemmas.Bool.{cond_both}
+use Rattle.std.proofs.lemmas.Bool.Decides.{nat_tests}
 use borrow.Author.Tests.{eqb-false}
-use Rattle.cycle_space.specs.Rows.{add2}
 use Rattle.cycle_space.specs.Shapes.{Shape, EndsAreNodes, Parts, Due, Closing, Exactly, DueIsClosing}
 use Rattle.cycle_space.specs.Labels.{relabel, label, closes}
 use Rattle.cycle_space.specs.Supports.{rank}
-use Rattle.cycle_space.proofs.Booleans.{by_eqb, by_le, eqb_same, add2_false}
+use Rattle.cycle_space.proofs.Booleans.{eqb_same}
 use Rattle.cycle_space.specs.Sums.{fold, count}
 use Rattle.cycle_space.proofs.Counting.{flip, count_same, count_le, count_all, count_out, count_front, exactly_count, count_exactly}
 use Rattle.cycle_space.proofs.Labels.{label_le, label_label, closing_decided}
@@ -17,74 +18,38 @@ root N k v = eqb (label N k v) v
 
 -- A closing pipe changes no label, and any other leaves one root less
 
-relabel_same : (p q l : ℕ) → p ≡ q → relabel p q l ≡ l
-relabel_same p q l e = by_eqb (λ t. cond t (min p q) l ≡ l) l (max p q) (λ h. omega arith) (λ _. refl)
-
-which_max : (p q : ℕ) → (max p q ≡ p) ⊎ (max p q ≡ q)
-which_max p q = elim (by_le p q) [ inl h ↦ inr (omega arith) | inr h ↦ inl (omega arith) ]
-
-which_min : (p q : ℕ) → (min p q ≡ p) ⊎ (min p q ≡ q)
-which_min p q = elim (by_le p q) [ inl h ↦ inl (omega arith) | inr h ↦ inr (omega arith) ]
-
-one_of : (N : Shape) (k p q m : ℕ) → label N k p ≡ p → label N k q ≡ q → (m ≡ p) ⊎ (m ≡ q) → label N k m ≡ m
-one_of N k p q m lp lq (inl e) = ap (label N k) e ∙ lp ∙ sym e
-one_of N k p q m lp lq (inr e) = ap (label N k) e ∙ lq ∙ sym e
-
 -- the higher of two labels is no longer one, and else nothing changes
 root_next : (N : Shape) (k p q : ℕ) → label N k p ≡ p → label N k q ≡ q → (p ≡ q → ⊥)
     → (v : ℕ) → eqb (relabel p q (label N k v)) v ≡ flip (root N k) (max p q) v
-root_next N k p q lp lq ne v =
-    by_eqb (λ c. eqb (relabel p q (label N k v)) v ≡ add2 (eqb (label N k v) v) c) v (max p q)
-    (λ e.
-    let lv : label N k v ≡ v = ap (label N k) e ∙ one_of N k p q (max p q) lp lq (which_max p q) ∙ sym e in
-    ap (λ c. eqb (cond c (min p q) (label N k v)) v) (eq-eqb (label N k v) (max p q) (lv ∙ e))
-    ∙ ne_eqb (min p q) v (λ h. ne (omega arith))
-    ∙ sym (ap (λ c. add2 c true) (eq-eqb (label N k v) v lv)))
-    (λ n. by_eqb (λ c. eqb (cond c (min p q) (label N k v)) v ≡ add2 (eqb (label N k v) v) false) (label N k v) (max p q)
-    (λ lm.
-    ne_eqb (min p q) v (λ h. n (still h ∙ lm))
-    ∙ sym (ap (λ c. add2 c false) (ne_eqb (label N k v) v (λ g. n (sym g ∙ lm)))))
-    (λ _. sym (add2_false (eqb (label N k v) v))))
-  where
-    still : min p q ≡ v → v ≡ label N k v
-    still h = sym h ∙ sym (one_of N k p q (min p q) lp lq (which_min p q)) ∙ ap (label N k) h
+root_next N k p q lp lq ne v = grind (arith, nat_tests)
 
 -- over the first k pipes, with 0 as one more root
 due_after : (N : Shape) → EndsAreNodes N → (k : ℕ) → k ≤ N.pipes → count k (closes N) + suc N.nodes ≡ k + count (suc N.nodes) (root N k)
 unfolding fold
 due_after N g zero l = let e = count_all (suc N.nodes) (root N zero) (λ v _. eqb_same v) in omega arith
-due_after N g (suc k) l = go (due_after N g k (omega arith)) (closes N k) refl
-  where
-    p : ℕ
-    p = label N k (N.first k)
-
-    q : ℕ
-    q = label N k (N.second k)
-
-    go : count k (closes N) + suc N.nodes ≡ k + count (suc N.nodes) (root N k) → (b : Bool) → closes N k ≡ b
-        → cond b 1 0 + count k (closes N) + suc N.nodes ≡ suc k + count (suc N.nodes) (root N (suc k))
-    go ih true e =
-        let s = count_same (suc N.nodes) (root N (suc k)) (root N k) (λ v _. ap (λ l. eqb l v) (relabel_same p q (label N k v) (eqb-true p q e))) in
-        omega arith
-    go ih false e =
-        let lp = label_label N k (N.first k) in
-        let lq = label_label N k (N.second k) in
-        let s = count_same (suc N.nodes) (root N (suc k)) (flip (root N k) (max p q)) (λ v _. root_next N k p q lp lq (eqb-false p q e) v) in
-        let p_le = label_le N k (N.first k) in
-        let q_le = label_le N k (N.second k) in
-        let first_in = (g k l).0.1 in
-        let second_in = (g k l).1.1 in
-        let low : max p q < suc N.nodes = omega arith in
-        let o = count_out (suc N.nodes) (root N k) (max p q) low (eq-eqb (label N k (max p q)) (max p q) (one_of N k p q (max p q) lp lq (which_max p q))) in
-        omega arith
+due_after N g (suc k) l =
+    let ih = due_after N g k (omega arith) in
+    let p : ℕ = label N k (N.first k) in
+    let q : ℕ = label N k (N.second k) in
+    cond_both (closes N k) 1 0 (λ c. c + count k (closes N) + suc N.nodes ≡ suc k + count (suc N.nodes) (root N (suc k)))
+    (λ e. let s = count_same (suc N.nodes) (root N (suc k)) (root N k) (λ v _. grind (arith, nat_tests)) in omega arith)
+    (λ e.
+    let lp = label_label N k (N.first k) in
+    let lq = label_label N k (N.second k) in
+    let s = count_same (suc N.nodes) (root N (suc k)) (flip (root N k) (max p q)) (λ v _. root_next N k p q lp lq (eqb-false p q e) v) in
+    let p_le = label_le N k (N.first k) in
+    let q_le = label_le N k (N.second k) in
+    let ends = g k l in
+    let o = count_out (suc N.nodes) (root N k) (max p q) (omega (arith, ends.0.1, ends.1.1)) (grind (arith, nat_tests)) in
+    omega arith)
 
 pub due_by_labels : (N : Shape) → EndsAreNodes N
     → rank N + N.nodes ≡ N.pipes + count N.nodes (λ v. eqb (label N N.pipes (suc v)) (suc v))
 due_by_labels N g =
     let c = due_after N g N.pipes (omega arith) in
     let front = count_front N.nodes (root N N.pipes) in
-    let zeroth : ◌≡◌ {A = ℕ} (cond (root N N.pipes 0) 1 0) 1 = ap (λ b. cond b 1 0) (eq-eqb (label N N.pipes 0) 0 (let p = label_le N N.pipes 0 in omega arith)) in
-    omega arith
+    let zeroth = label_le N N.pipes 0 in
+    grind (arith, nat_tests)
 
 pub due_rank : (N : Shape) → EndsAreNodes N → Due N (rank N)
 due_rank N g = (count N.nodes (λ v. eqb (label N N.pipes (suc v)) (suc v)), parts_by_labels N g, due_by_labels N g)

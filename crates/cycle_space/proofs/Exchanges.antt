@@ -1,39 +1,29 @@
 -- The exchange: rings take the places of members of a basis that weigh no less. Assumes nothing.
-use Rattle.std.proofs.Common.{◌≡◌, ℕ, zero, suc, ◌<◌, ◌≤◌, Bool, true, cond, eqb, ◌⊎◌, sym, refl, ap, ◌∙◌, subst, ap₂, inl, inr, arith}
+use Rattle.std.proofs.Common.{◌≡◌, ℕ, zero, suc, ◌<◌, ◌≤◌, Bool, true, ◌⊎◌, sym, refl, ap, ◌∙◌, subst, ap₂, inl, inr, arith}
+use Rattle.std.proofs.lemmas.Bool.Decides.{nat_tests}
 use mathlib.Core.Path.{fun_ext}
 use borrow.Author.Tests.{both_ways}
 use Rattle.cycle_space.specs.Rows.{add2}
-use Rattle.cycle_space.proofs.Booleans.{by_eqb, eqb_same}
 use Rattle.cycle_space.proofs.Linear.{Space, Spans, Rings, replaced, Exchanged}
 use Rattle.cycle_space.proofs.Bases.{put, swapped, found}
 
 -- below k, f with j put at k is f
 pub kept : {M : Type 0} (f : ℕ → M) (k : ℕ) (j : M) (i : ℕ) → i < k → put f k j i ≡ f i
-kept f k j i h = by_eqb (λ t. cond t j (f i) ≡ f i) i k (λ q. absurd (omega arith)) (λ _. refl)
+kept f k j i h = grind (arith, nat_tests)
 
 pub put_at : {M : Type 0} (f : ℕ → M) (k : ℕ) (j : M) → put f k j k ≡ j
-put_at f k j = ap (λ t. cond t j (f k)) (eqb_same k)
+put_at f k j = grind (arith, nat_tests)
 
 module _ {M : Type 0} (B C : ℕ → M) where
   replaced_same : (f h : ℕ → ℕ) (k : ℕ) → ((i : ℕ) → i < k → f i ≡ h i) → (j : ℕ) → replaced B C f k j ≡ replaced B C h k j
   replaced_same f h zero eq j = refl
-  replaced_same f h (suc k) eq j =
-      ap₂ (λ a x. cond (eqb j a) (C k) x) (eq k (omega arith)) (replaced_same f h k (λ i l. eq i (omega arith)) j)
+  replaced_same f h (suc k) eq j = let r = replaced_same f h k in grind arith
 
   -- what stands at the place j: a ring, or the old member
   pub origin : (f : ℕ → ℕ) (k j : ℕ)
       → ((i : ℕ) × (i < k) × (f i ≡ j) × (replaced B C f k j ≡ C i)) ⊎ (((i : ℕ) → i < k → f i ≡ j → ⊥) × (replaced B C f k j ≡ B j))
   origin f zero j = inr ((λ i l _. absurd (omega arith)), refl)
-  origin f (suc k) j =
-      by_eqb (λ t. ((i : ℕ) × (i < suc k) × (f i ≡ j) × (cond t (C k) (replaced B C f k j) ≡ C i)) ⊎ (((i : ℕ) → i < suc k → f i ≡ j → ⊥) × (cond t (C k) (replaced B C f k j) ≡ B j))) j (f k)
-      (λ q. inl (k, omega arith, sym q, refl))
-      (λ ne. elim (origin f k j) [
-        | inl r ↦ inl (r.0, omega arith, r.2, r.3)
-        | inr r ↦ inr ((λ i l q. elim (last i l) [ inl below ↦ r.0 i below q | inr same ↦ ne (sym q ∙ ap f same) ]), r.1)
-      ])
-    where
-      last : (i : ℕ) → i < suc k → (i < k) ⊎ (i ≡ k)
-      last i l = by_eqb (λ _. (i < k) ⊎ (i ≡ k)) i k inr (λ ne. inl (omega arith))
+  origin f (suc k) j = let r = origin f k j in grind (arith, nat_tests)
 
 module _ {M V : Type 0} {e : M} {op : M → M → M} {In : M → Type 0} (sp : Space e op In)
     {leq : V → V → Bool} {w : M → V} {S : ℕ → M → Bool} (adds : (i : ℕ) (x y : M) → S i (op x y) ≡ add2 (S i x) (S i y))
@@ -44,15 +34,10 @@ module _ {M V : Type 0} {e : M} {op : M → M → M} {In : M → Type 0} (sp : S
       → Exchanged e op In leq w (suc k) C n B (put f k j)
   placed k lt f ex j jn fresh heavy nb = record {
     places = record {
-      within = λ i l. by_eqb (λ t. cond t j (f i) < n) i k (λ _. jn) (λ ne. ex.places.within i (omega arith));
-      apart = λ i l il ll.
-          by_eqb (λ t. cond t j (f i) ≡ put f k j l → i ≡ l) i k
-          (λ p. by_eqb (λ t. j ≡ cond t j (f l) → i ≡ l) l k (λ q _. p ∙ sym q) (λ ne q. absurd (fresh l (omega arith) (sym q))))
-          (λ ne. by_eqb (λ t. f i ≡ cond t j (f l) → i ≡ l) l k (λ p q. absurd (fresh i (omega arith) q)) (λ ne' q. ex.places.apart i l (omega arith) (omega arith) q));
+      within = λ i l. let old = ex.places.within i in grind (arith, nat_tests);
+      apart = λ i l il ll. let old = ex.places.apart i l in let one = fresh i in let two = fresh l in grind (arith, nat_tests);
     };
-    heavier = λ i l. by_eqb (λ t. leq (w (C i)) (w (B (cond t j (f i)))) ≡ true) i k
-        (λ p. ap (λ a. leq (w (C a)) (w (B j))) p ∙ heavy)
-        (λ ne. ex.heavier i (omega arith));
+    heavier = λ i l. let old = ex.heavier i in grind (arith, nat_tests);
     basis = subst (Spans e op In n)
         (ap₂ (λ (a : ℕ) (r : ℕ → M). put r a (C k)) (sym (put_at f k j)) (fun_ext (λ l. sym (replaced_same B C (put f k j) f k (λ i il. kept f k j i il) l))))
         nb;

@@ -1,18 +1,21 @@
 -- Sound rings exist, as many as there are closing pipes, and are a basis, so what is proved of rings is proved of something; and every basis has as many members. Assumes nothing.
-use Rattle.std.proofs.Common.{◌≡◌, ℕ, zero, suc, ◌≤◌, Bool, true, false, cond, ◌&&◌, ltb, List, length, get_or, sym, refl, ap, ◌∙◌, subst, ap₂, arith, ltb-true, lt-ltb}
+use Rattle.std.proofs.Common.{◌≡◌, ℕ, zero, suc, ◌≤◌, Bool, true, cond, ◌&&◌, ltb, List, length, get_or, sym, refl, ◌∙◌, subst, arith}
+use Rattle.cycle_space.proofs.Folds.{dot_add}
+use Rattle.std.proofs.lemmas.List.FromFn.{length-map-range_with_len}
+use Rattle.std.proofs.lemmas.Bool.Decides.{nat_tests}
 use native.Mathlib.Decide.{dec_lt}
-use Rattle.cycle_space.specs.Rows.{Row, bit, holds, empty, sum, odd}
+use Rattle.cycle_space.specs.Rows.{Row, bit, empty, sum, odd}
 use Rattle.cycle_space.specs.Shapes.{Shape, Due}
 use Rattle.cycle_space.specs.Bases.{Basis}
 use Rattle.cycle_space.specs.Supports.{rank, alone, Sound, Extended, BasesExist, ClosingPipesTell, BasesHaveDueSize}
-use Rattle.cycle_space.proofs.Booleans.{not_so, and_false}
+use Rattle.cycle_space.proofs.Counting.{listed, listed_at}
 use Rattle.cycle_space.proofs.Bases.{put}
 use Rattle.cycle_space.proofs.Exchanges.{kept, put_at, exchange}
 use Rattle.cycle_space.proofs.Counts.{same_size}
 use Rattle.cycle_space.proofs.Due.{due_rank}
-use Rattle.cycle_space.proofs.Bits.{known_by_pipes, empty_bit, empty_row}
+use Rattle.cycle_space.proofs.Bits.{known_by_bits, empty_bit, empty_row}
 use Rattle.cycle_space.proofs.Closings.{separation}
-use Rattle.cycle_space.proofs.Spaces.{odd_adds, space, of_row, to_spans, listed, listed_length, listed_at}
+use Rattle.cycle_space.proofs.Spaces.{space, of_row, to_spans}
 use Rattle.cycle_space.proofs.Supports.{due_ring, sound_rings}
 use Rattle.cycle_space.proofs.Keeping.{sound_alone, sound_next}
 use Rattle.cycle_space.proofs.Props.{as_rings}
@@ -24,13 +27,10 @@ turn k support c i = cond (ltb k i && odd c (support i)) (sum (support i) (suppo
 
 turn_extends : (k : ℕ) (support : ℕ → Row) (c : Row) → Extended k support c (turn k support c)
 turn_extends k support c = record {
-  earlier_stay = λ i l. which i (ap (λ b. b && odd c (support i)) (not_so (ltb k i) (λ e. let lt = ltb-true k i e in omega arith)));
-  even_stay = λ i l e. which i (ap (λ b. ltb k i && b) e ∙ and_false (ltb k i));
-  odd_turn = λ i l o. ap (λ b. cond b (sum (support i) (support k)) (support i)) (ap₂ ◌&&◌ (lt-ltb k i l) o);
+  earlier_stay = λ i l. grind (arith, nat_tests);
+  even_stay = λ i l e. grind (arith, nat_tests);
+  odd_turn = λ i l o. grind (arith, nat_tests);
 }
-  where
-    which : (i : ℕ) → (ltb k i && odd c (support i)) ≡ false → turn k support c i ≡ support i
-    which i e = ap (λ b. cond b (sum (support i) (support k)) (support i)) e
 
 -- one ring after the other
 reach : (N : Shape) → N.pipes ≤ 256 → (k : ℕ) → k ≤ rank N → (ring : ℕ → Row) × (support : ℕ → Row) × Sound N k ring support
@@ -53,7 +53,7 @@ pub sound_bases_exist : (N : Shape) → N.pipes ≤ 256
 sound_bases_exist N few =
     let r = reach N few (rank N) (omega arith) in
     let rows : List Row = listed (rank N) r.0 in
-    let long : length rows ≡ rank N = listed_length (rank N) r.0 in
+    let long : length rows ≡ rank N = length-map-range_with_len r.0 0 (rank N) in
     let s : Sound N (length rows) (λ i. get_or rows i empty) r.1 =
     subst (λ k. Sound N k (λ i. get_or rows i empty) r.1) (sym long) (as_rings (λ i l. sym (listed_at (rank N) r.0 empty i l)) r.2) in
     (rows, r.1, long, s, basis_when_full N rows r.1 s long)
@@ -64,12 +64,8 @@ bases_exist N few = let r = sound_bases_exist N few in (r.0, r.2, r.4)
 pub closing_pipes_tell : ClosingPipesTell
 closing_pipes_tell N few x c h =
     let cycle = of_row N x c in
-    known_by_pipes x empty c.of_pipes.words empty_row
-    (λ j. same (λ i. elim (dec_lt i N.pipes) [ yes l ↦ separation N (bit x) cycle.closed h i l | no l ↦ cycle.bounded i (omega arith) ]) j)
-  where
-    same : ((i : ℕ) → bit x i ≡ false) → (j : ℕ) → holds x j ≡ holds empty j
-    same e zero = refl
-    same e (suc j) = e j ∙ sym (empty_bit j)
+    known_by_bits x empty c.of_pipes.words empty_row
+    (λ j _. elim (dec_lt j N.pipes) [ yes l ↦ separation N (bit x) cycle.closed h j l | no l ↦ cycle.bounded j (omega arith) ] ∙ sym (empty_bit j))
 
 -- the rings of a sound list can be exchanged into any basis, so both have one size
 pub bases_have_due_size : BasesHaveDueSize
@@ -77,5 +73,5 @@ bases_have_due_size N g few rival b =
     let r = sound_bases_exist N few in
     let ours = r.0 in
     let rings = sound_rings N (length ours) (λ i. get_or ours i empty) r.1 r.3 {V = Bool} (λ _ _. true) (λ _. true) (λ _ _ _ _ _. refl) in
-    let ex = exchange (space N) (λ i. odd_adds (bit (r.1 i))) rings (to_spans N few rival b) in
+    let ex = exchange (space N) (λ i. dot_add 256 (bit (r.1 i))) rings (to_spans N few rival b) in
     subst (Due N) (sym (same_size (space N) (to_spans N few ours r.4) ex.1 ∙ r.2)) (due_rank N g)

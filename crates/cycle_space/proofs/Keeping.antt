@@ -1,46 +1,39 @@
 -- How rings and supports stay sound: before the first ring, with another number of nodes, with one more ring. Assumes nothing.
-use Rattle.std.proofs.Common.{◌≡◌, ℕ, zero, suc, ◌+◌, ◌%◌, ◌<◌, ◌≤◌, Bool, true, false, cond, ◌&&◌, eqb, ltb, length, sym, refl, ap, ◌∙◌, subst, ap₂, inl, inr, arith, ltb-true, le-ltb, lt-ltb, eq-eqb, eqb-true}
-use mathlib.Core.Path.{fun_ext}
+use Rattle.std.proofs.Common.{◌≡◌, ℕ, zero, suc, ◌%◌, ◌<◌, ◌≤◌, Bool, true, false, ◌&&◌, eqb, ltb, ◌⊎◌, length, sym, refl, ap, ◌∙◌, subst, ap₂, inl, inr, arith}
+use Rattle.std.proofs.lemmas.Bool.{cases_Bool}
+use Rattle.std.proofs.lemmas.Bool.Decides.{nat_tests}
 use native.Mathlib.Decide.{dec_lt}
 use Rattle.cycle_space.specs.Sums.{count}
 use Rattle.cycle_space.specs.Rows.{Row, bit, holds, empty, FourWords, row_of, add2, sum, odd}
 use Rattle.cycle_space.specs.Shapes.{Shape, Closing, Exactly}
-use Rattle.cycle_space.specs.Labels.{relabel, label, closes}
+use Rattle.cycle_space.specs.Labels.{closes}
 use Rattle.cycle_space.specs.Bases.{OfPipes, touching, Closed}
 use Rattle.cycle_space.specs.Supports.{rank, before, alone, Sound, Extended, AloneHolds}
-use Rattle.cycle_space.proofs.Booleans.{by_eqb, not_so, and_left, and_right, either}
-use Rattle.cycle_space.proofs.Bits.{known_by_pipes, row_of_words, row_bit, bit_past, empty_bit, empty_row, sum_bit, sum_holds, sum_row}
+use Rattle.cycle_space.proofs.Booleans.{by_eqb, not_so}
+use Rattle.cycle_space.proofs.Bits.{known_by_bits, row_of_words, row_bits, empty_bit, empty_row, sum_bit, sum_holds, sum_row}
 use Rattle.cycle_space.proofs.Singles.{single_bit}
 use Rattle.cycle_space.proofs.Parities.{parity_laws}
 use Rattle.cycle_space.proofs.Labels.{closing_decided}
-use Rattle.cycle_space.proofs.Counting.{count_same_place, exactly_count, count_exactly}
-use Rattle.cycle_space.proofs.Supports.{below_rank}
+use Rattle.cycle_space.proofs.Counting.{count_before, count_same_place, exactly_count, count_exactly}
 
 -- Closing pipes alone
 
-pub alone_words : (N : Shape) (i : ℕ) → FourWords (alone N i)
+alone_words : (N : Shape) (i : ℕ) → FourWords (alone N i)
 unfolding alone
 alone_words N i = row_of_words (λ j. ltb j N.pipes && (closes N j && eqb (before N j) i))
 
-pub alone_bit : (N : Shape) → N.pipes ≤ 256 → (i j : ℕ) → bit (alone N i) j ≡ (ltb j N.pipes && (closes N j && eqb (before N j) i))
+alone_bit : (N : Shape) → N.pipes ≤ 256 → (i j : ℕ) → bit (alone N i) j ≡ (ltb j N.pipes && (closes N j && eqb (before N j) i))
 unfolding alone
-alone_bit N few i j = elim (dec_lt j 256) [
-  | yes l ↦ row_bit (λ j. ltb j N.pipes && (closes N j && eqb (before N j) i)) j l
-  | no l ↦ bit_past (alone N i) (alone_words N i).four j (omega arith) ∙ sym (ap (λ b. b && (closes N j && eqb (before N j) i)) (le-ltb j N.pipes (omega arith)))
-]
+alone_bit N few i j = row_bits (λ j. ltb j N.pipes && (closes N j && eqb (before N j) i)) (λ j l. grind (arith, nat_tests)) j
 
 -- what is in such a row
 alone_in : (N : Shape) → N.pipes ≤ 256 → (i j : ℕ) → bit (alone N i) j ≡ true → (j < N.pipes) × (closes N j ≡ true) × (before N j ≡ i)
 alone_in N few i j h =
     let t = sym (alone_bit N few i j) ∙ h in
-    let c = and_right (ltb j N.pipes) (closes N j && eqb (before N j) i) t in (
-      ltb-true j N.pipes (and_left (ltb j N.pipes) (closes N j && eqb (before N j) i) t),
-      and_left (closes N j) (eqb (before N j) i) c,
-      eqb-true (before N j) i (and_right (closes N j) (eqb (before N j) i) c),
-    )
+    grind (arith, nat_tests)
 
 in_alone : (N : Shape) → N.pipes ≤ 256 → (i j : ℕ) → j < N.pipes → closes N j ≡ true → before N j ≡ i → bit (alone N i) j ≡ true
-in_alone N few i j l c e = alone_bit N few i j ∙ ap₂ ◌&&◌ (lt-ltb j N.pipes l) (ap₂ ◌&&◌ c (eq-eqb (before N j) i e))
+in_alone N few i j l c e = let t = alone_bit N few i j in grind (arith, nat_tests)
 
 pub alone_holds : AloneHolds
 alone_holds N few i j = (
@@ -51,25 +44,21 @@ alone_holds N few i j = (
 
 -- the row of a closing pipe, and no row past the last of them
 pub alone_single : (N : Shape) → N.pipes ≤ 256 → (j : ℕ) → j < N.pipes → closes N j ≡ true → row_of (λ l. eqb (suc l) (suc j)) ≡ alone N (before N j)
-alone_single N few j lj cj = known_by_pipes (row_of f) (alone N (before N j)) (row_of_words f) (alone_words N (before N j)) same
+alone_single N few j lj cj =
+    known_by_bits (row_of f) (alone N (before N j)) (row_of_words f) (alone_words N (before N j))
+    (λ l _.
+    let here = in_alone N few (before N j) j lj cj refl in
+    let other = alone_in N few (before N j) l in
+    let one = count_same_place (closes N) l j in
+    single_bit j l (omega arith) ∙ grind (arith, nat_tests))
   where
     f : ℕ → Bool
     f l = eqb (suc l) (suc j)
 
-    same : (l : ℕ) → holds (row_of f) l ≡ holds (alone N (before N j)) l
-    same zero = refl
-    same (suc l) = single_bit j l (omega arith) ∙ by_eqb (λ t. t ≡ bit (alone N (before N j)) l) l j
-        (λ q. sym (subst (λ i. bit (alone N (before N j)) i ≡ true) (sym q) (in_alone N few (before N j) j lj cj refl)))
-        (λ ne. sym (not_so (bit (alone N (before N j)) l) (λ h. let a = alone_in N few (before N j) l h in ne (count_same_place (closes N) l j a.1 cj a.2))))
-
 pub alone_past : (N : Shape) → N.pipes ≤ 256 → (i : ℕ) → rank N ≤ i → alone N i ≡ empty
-alone_past N few i h = known_by_pipes (alone N i) empty (alone_words N i) empty_row same
-  where
-    same : (l : ℕ) → holds (alone N i) l ≡ holds empty l
-    same zero = refl
-    same (suc l) =
-        not_so (bit (alone N i) l) (λ b. let a = alone_in N few i l b in let r = below_rank N l a.0 a.1 in let e = a.2 in omega arith)
-        ∙ sym (empty_bit l)
+alone_past N few i h =
+    known_by_bits (alone N i) empty (alone_words N i) empty_row
+    (λ l _. let r = alone_in N few i l in let low = count_before (closes N) N.pipes l in let e = empty_bit l in grind arith)
 
 pub sound_alone : (N : Shape) (ring : ℕ → Row) → N.pipes ≤ 256 → Sound N 0 ring (alone N)
 sound_alone N ring few = record {
@@ -89,16 +78,9 @@ sound_alone N ring few = record {
 
 -- Another number of nodes
 
-label_same : (N N' : Shape) → N.first ≡ N'.first → N.second ≡ N'.second → (k v : ℕ) → label N k v ≡ label N' k v
-label_same N N' p q zero v = refl
-label_same N N' p q (suc k) v =
-    ap₂ (λ x y. relabel x y (label N k v)) (label_same N N' p q k (N.first k) ∙ ap (λ f. label N' k (f k)) p) (label_same N N' p q k (N.second k) ∙ ap (λ f. label N' k (f k)) q)
-    ∙ ap (relabel (label N' k (N'.first k)) (label N' k (N'.second k))) (label_same N N' p q k v)
-
 -- which pipes are closing, is seen from their ends
-pub closes_same : (N N' : Shape) → N.first ≡ N'.first → N.second ≡ N'.second → closes N ≡ closes N'
-closes_same N N' p q =
-    fun_ext (λ j. ap₂ eqb (label_same N N' p q j (N.first j) ∙ ap (λ f. label N' j (f j)) p) (label_same N N' p q j (N.second j) ∙ ap (λ f. label N' j (f j)) q))
+closes_same : (N N' : Shape) → N.first ≡ N'.first → N.second ≡ N'.second → closes N ≡ closes N'
+closes_same N N' p q = ap₂ (λ f g. closes (record { nodes = 0; pipes = 0; first = f; second = g })) p q
 
 pub alone_same : (N N' : Shape) → N.pipes ≡ N'.pipes → N.first ≡ N'.first → N.second ≡ N'.second → (i : ℕ) → alone N i ≡ alone N' i
 unfolding alone
@@ -106,9 +88,7 @@ alone_same N N' e p q i = ap₂ (λ (m : ℕ) (f : ℕ → Bool). row_of (λ j. 
 
 touching_same : (N N' : Shape) → N.first ≡ N'.first → N.second ≡ N'.second → (r : Row) (v k : ℕ) → touching N r v k ≡ touching N' r v k
 unfolding touching
-touching_same N N' p q r v zero = refl
-touching_same N N' p q r v (suc k) =
-    ap₂ (λ n m. cond (holds r (suc k)) n 0 + m) (ap₂ (λ (f g : ℕ → ℕ). cond (eqb (f k) v) 1 0 + cond (eqb (g k) v) 1 0) p q) (touching_same N N' p q r v k)
+touching_same N N' p q r v k = ap₂ (λ f g. touching (record { nodes = 0; pipes = 0; first = f; second = g }) r v k) p q
 
 -- a closed set does not see how many nodes there are
 pub closed_same : (N N' : Shape) → N.pipes ≡ N'.pipes → N.first ≡ N'.first → N.second ≡ N'.second → (r : Row) → Closed N r → Closed N' r
@@ -121,23 +101,14 @@ pub sound_nodes : (m : ℕ) (N : Shape) (k : ℕ) (ring support : ℕ → Row) �
     → Sound (record { nodes = m; pipes = N.pipes; first = N.first; second = N.second }) k ring support
 sound_nodes m N k ring support s = record {
   few_pipes = s.few_pipes;
-  not_over = subst (λ f. k ≤ count N.pipes f) same s.not_over;
-  of_pipes = λ i l. s.of_pipes i (ranked i l);
-  own = λ j l c. subst (λ f. f j ≡ true → bit (support (count j f)) j ≡ true) same (s.own j l) c;
-  lower = λ i j l h. subst (λ f. (f j ≡ true) × (count j f ≤ i)) same (s.lower i j (ranked i l) h);
-  closed = λ i l. closed_same N N' refl refl refl (ring i) (s.closed i l);
+  not_over = s.not_over;
+  of_pipes = s.of_pipes;
+  own = s.own;
+  lower = s.lower;
+  closed = λ i l. closed_same N (record { nodes = m; pipes = N.pipes; first = N.first; second = N.second }) refl refl refl (ring i) (s.closed i l);
   own_odd = s.own_odd;
-  later_even = λ i j l ij jr. s.later_even i j l ij (ranked j jr);
+  later_even = s.later_even;
 }
-  where
-    N' : Shape
-    N' = record { nodes = m; pipes = N.pipes; first = N.first; second = N.second }
-
-    same : closes N ≡ closes N'
-    same = closes_same N N' refl refl
-
-    ranked : (i : ℕ) → i < rank N' → i < rank N
-    ranked i l = subst (λ f. i < count N.pipes f) (sym same) l
 
 -- One more ring
 
@@ -147,21 +118,6 @@ odd_sum x s t ws wt =
 
 module _ (N : Shape) (k : ℕ) (ring support : ℕ → Row) (s : Sound N k ring support) (c : Row) (cc : Closed N c) (co : odd c (support k) ≡ true) (kr : k < rank N)
     (ring' : ℕ → Row) (old : (i : ℕ) → i < k → ring' i ≡ ring i) (new : ring' k ≡ c) (support' : ℕ → Row) (x : Extended k support c support') where
-  -- a support is the old one, or a later one and that of the new ring added
-  data Later (i : ℕ) : Type 0 where
-    same : support' i ≡ support i → (k < i → odd c (support i) ≡ false) → Later i
-    turned : k < i → odd c (support i) ≡ true → support' i ≡ sum (support i) (support k) → Later i
-
-  later : (i : ℕ) → Later i
-  later i = elim (dec_lt k i) [
-    | yes l ↦ go l (odd c (support i)) refl
-    | no l ↦ same (x.earlier_stay i (omega arith)) (λ h. absurd (l h))
-  ]
-    where
-      go : k < i → (b : Bool) → odd c (support i) ≡ b → Later i
-      go l true o = turned l o (x.odd_turn i l o)
-      go l false o = same (x.even_stay i l o) (λ _. o)
-
   four : (i : ℕ) → i < rank N → FourWords (support i)
   four i l = (s.of_pipes i l).words
 
@@ -169,60 +125,53 @@ module _ (N : Shape) (k : ℕ) (ring support : ℕ → Row) (s : Sound N k ring 
   long i l = (four i l).four ∙ sym (four k kr).four
 
   of_pipes' : (i : ℕ) → i < rank N → OfPipes N.pipes (support' i)
-  of_pipes' i l = go (later i)
-    where
-      go : Later i → OfPipes N.pipes (support' i)
-      go (same e _) = subst (OfPipes N.pipes) (sym e) (s.of_pipes i l)
-      go (turned _ _ e) = subst (OfPipes N.pipes) (sym e) (record {
-        words = sum_row (support i) (support k) (four i l) (four k kr);
-        others = λ j h. sum_holds (support i) (support k) (long i l) j ∙ ap₂ add2 ((s.of_pipes i l).others j h) ((s.of_pipes k kr).others j h);
-      })
+  of_pipes' i l = elim (dec_lt k i) [
+    | yes m ↦ elim (cases_Bool (odd c (support i))) [
+      | inl o ↦ subst (OfPipes N.pipes) (sym (x.odd_turn i m o)) (record {
+          words = sum_row (support i) (support k) (four i l) (four k kr);
+          others = λ j h. sum_holds (support i) (support k) (long i l) j ∙ ap₂ add2 ((s.of_pipes i l).others j h) ((s.of_pipes k kr).others j h);
+        })
+      | inr o ↦ subst (OfPipes N.pipes) (sym (x.even_stay i m o)) (s.of_pipes i l)
+    ]
+    | no m ↦ subst (OfPipes N.pipes) (sym (x.earlier_stay i (omega arith))) (s.of_pipes i l)
+  ]
+
+  -- the bits of a support: the old ones, or those of the new ring's support added
+  new_bit : (i j : ℕ) → i < rank N → (bit (support' i) j ≡ bit (support i) j) ⊎ ((k < i) × (bit (support' i) j ≡ add2 (bit (support i) j) (bit (support k) j)))
+  new_bit i j l =
+      let stay = x.earlier_stay i in
+      let even = x.even_stay i in
+      let turn = x.odd_turn i in
+      let both = sum_bit (support i) (support k) (long i l) j in
+      grind arith
 
   own' : (j : ℕ) → j < N.pipes → closes N j ≡ true → before N j < rank N → bit (support' (before N j)) j ≡ true
-  own' j l cj r = go (later (before N j))
-    where
-      go : Later (before N j) → bit (support' (before N j)) j ≡ true
-      go (same e _) = ap (λ t. bit t j) e ∙ s.own j l cj
-      go (turned ki _ e) =
-          ap (λ t. bit t j) e ∙ sum_bit (support (before N j)) (support k) (long (before N j) r) j
-          ∙ ap₂ add2 (s.own j l cj) (not_so (bit (support k) j) (λ h. let low = (s.lower k j kr h).1 in omega arith))
+  own' j l cj r = let b = new_bit (before N j) j r in let old = s.own j l cj in let low = s.lower k j kr in grind arith
 
   lower' : (i j : ℕ) → i < rank N → bit (support' i) j ≡ true → (closes N j ≡ true) × (before N j ≤ i)
-  lower' i j l h = go (later i)
-    where
-      go : Later i → (closes N j ≡ true) × (before N j ≤ i)
-      go (same e _) = s.lower i j l (sym (ap (λ t. bit t j) e) ∙ h)
-      go (turned ki _ e) = elim (either (bit (support i) j) (bit (support k) j) (sym (ap (λ t. bit t j) e ∙ sum_bit (support i) (support k) (long i l) j) ∙ h)) [
-        | inl p ↦ s.lower i j l p
-        | inr q ↦ let low = s.lower k j kr q in (low.0, (let e = low.1 in omega arith))
-      ]
+  lower' i j l h = let b = new_bit i j l in let one = s.lower i j l in let two = s.lower k j kr in grind arith
 
   later_even' : (i j : ℕ) → i < suc k → i < j → j < rank N → odd (ring' i) (support' j) ≡ false
-  later_even' i j l ij jr = by_eqb (λ _. odd (ring' i) (support' j) ≡ false) i k
-      (λ q. ap (λ r. odd r (support' j)) (ap ring' q ∙ new) ∙ at_new (omega arith) (later j))
-      (λ ne. let ik : i < k = omega arith in ap (λ r. odd r (support' j)) (old i ik) ∙ at_old ik (later j))
-    where
-      at_new : k < j → Later j → odd c (support' j) ≡ false
-      at_new kj (same e even) = ap (odd c) e ∙ even kj
-      at_new kj (turned _ o e) = ap (odd c) e ∙ odd_sum c (support j) (support k) (four j jr) (four k kr) ∙ ap₂ add2 o co
-
-      at_old : i < k → Later j → odd (ring i) (support' j) ≡ false
-      at_old ik (same e _) = ap (odd (ring i)) e ∙ s.later_even i j ik ij jr
-      at_old ik (turned _ _ e) =
-          ap (odd (ring i)) e ∙ odd_sum (ring i) (support j) (support k) (four j jr) (four k kr)
-          ∙ ap₂ add2 (s.later_even i j ik ij jr) (s.later_even i k ik ik kr)
+  later_even' i j l ij jr =
+      let stay = x.earlier_stay j in
+      let even = x.even_stay j in
+      let turn = x.odd_turn j in
+      let before = old i in
+      let one = λ (ik : i < k). s.later_even i j ik ij jr in
+      let two = λ (ik : i < k). s.later_even i k ik ik kr in
+      let at_new = odd_sum c (support j) (support k) (four j jr) (four k kr) in
+      let at_old = odd_sum (ring i) (support j) (support k) (four j jr) (four k kr) in
+      grind arith
 
   pub sound_next : Sound N (suc k) ring' support'
   sound_next = record {
     few_pipes = s.few_pipes;
     not_over = kr;
     of_pipes = of_pipes';
-    own = λ j l cj. own' j l cj (below_rank N j l cj);
+    own = λ j l cj. own' j l cj (count_before (closes N) N.pipes j l cj);
     lower = lower';
     closed = λ i l. by_eqb (λ _. Closed N (ring' i)) i k
         (λ q. subst (Closed N) (sym (ap ring' q ∙ new)) cc) (λ ne. subst (Closed N) (sym (old i (omega arith))) (s.closed i (omega arith)));
-    own_odd = λ i l. by_eqb (λ _. odd (ring' i) (support' i) ≡ true) i k
-        (λ q. ap₂ odd (ap ring' q ∙ new) (x.earlier_stay i (omega arith) ∙ ap support q) ∙ co)
-        (λ ne. ap₂ odd (old i (omega arith)) (x.earlier_stay i (omega arith)) ∙ s.own_odd i (omega arith));
+    own_odd = λ i l. let before = old i in let stay = x.earlier_stay i in let was = s.own_odd i in grind arith;
     later_even = later_even';
   }

@@ -1,30 +1,20 @@
 -- Labels: after the first k pipes two nodes have one label exactly where a run of those pipes joins them. Assumes nothing.
-use Rattle.std.proofs.Common.{◌≡◌, ℕ, zero, suc, ◌<◌, ◌≤◌, min, max, true, cond, ◌⊎◌, ◌↔◌, sym, refl, ap, ◌∙◌, subst, inl, inr, arith, eq-eqb, eqb-true}
+use Rattle.std.proofs.Common.{◌≡◌, ℕ, zero, suc, ◌<◌, ◌≤◌, min, max, true, cond, ◌↔◌, sym, refl, ap, ◌∙◌, subst, inl, inr, arith, eq-eqb, eqb-true}
+use Rattle.std.proofs.lemmas.Bool.{cases_lt}
+use Rattle.std.proofs.lemmas.Bool.Decides.{nat_tests}
 use Rattle.cycle_space.specs.Shapes.{Shape, EndsAreNodes, Crosses, Run, stay, cross, Closing}
-use Rattle.cycle_space.specs.Labels.{relabel, label, closes, LabelsTellParts}
-use Rattle.cycle_space.proofs.Booleans.{by_eqb, by_le}
-use Rattle.cycle_space.proofs.Runs.{run_by, run_then, run_back, run_up}
+use Rattle.cycle_space.specs.Labels.{label, closes, LabelsTellParts}
+use Rattle.cycle_space.proofs.Booleans.{by_eqb}
+use Rattle.cycle_space.proofs.Runs.{run_then, run_back, run_up}
 
 -- A run keeps the label
 
-relabel_left : (p q : ℕ) → relabel p q p ≡ min p q
-relabel_left p q = by_eqb (λ t. cond t (min p q) p ≡ min p q) p (max p q) (λ _. refl) (λ n. omega arith)
-
-relabel_right : (p q : ℕ) → relabel p q q ≡ min p q
-relabel_right p q = by_eqb (λ t. cond t (min p q) q ≡ min p q) q (max p q) (λ _. refl) (λ n. omega arith)
-
 label_pipe : (N : Shape) (k j : ℕ) → j < k → label N k (N.first j) ≡ label N k (N.second j)
 label_pipe N zero j l = absurd (omega arith)
-label_pipe N (suc k) j l =
-    let p = label N k (N.first k) in
-    let q = label N k (N.second k) in
-    by_eqb (λ _. relabel p q (label N k (N.first j)) ≡ relabel p q (label N k (N.second j))) j k
-    (λ e. ap (λ i. relabel p q (label N k (N.first i))) e ∙ relabel_left p q ∙ sym (relabel_right p q) ∙ ap (λ i. relabel p q (label N k (N.second i))) (sym e))
-    (λ n. ap (relabel p q) (label_pipe N k j (omega arith)))
+label_pipe N (suc k) j l = let r = label_pipe N k j in grind (arith, nat_tests)
 
 label_cross : (N : Shape) (k j s t : ℕ) → j < k → Crosses N j s t → label N k s ≡ label N k t
-label_cross N k j s t l (inl p) = ap (label N k) (sym p.0) ∙ label_pipe N k j l ∙ ap (label N k) p.1
-label_cross N k j s t l (inr p) = ap (label N k) (sym p.0) ∙ sym (label_pipe N k j l) ∙ ap (label N k) p.1
+label_cross N k j s t l c = let r = label_pipe N k j l in grind arith
 
 pub label_run : (N : Shape) (k s t : ℕ) → Run N k s t → label N k s ≡ label N k t
 label_run N k s t (stay e) = ap (label N k) e
@@ -32,60 +22,32 @@ label_run N k s t (cross j u l c r) = label_cross N k j s u l c ∙ label_run N 
 
 -- A run leads from a node to its label
 
--- the ends of pipe k have the labels p and q; a node with the greater of the two as its label gets the smaller
-lower : (N : Shape) (k v : ℕ)
-    → Run N k v (label N k v) → Run N k (N.first k) (label N k (N.first k)) → Run N k (N.second k) (label N k (N.second k))
-    → label N k v ≡ max (label N k (N.first k)) (label N k (N.second k))
-    → Run N (suc k) v (min (label N k (N.first k)) (label N k (N.second k)))
-lower N k v to_v to_p to_q e = go (by_le p q)
-  where
-    a : ℕ
-    a = N.first k
-
-    b : ℕ
-    b = N.second k
-
-    p : ℕ
-    p = label N k (N.first k)
-
-    q : ℕ
-    q = label N k (N.second k)
-
-    up : (s t : ℕ) → Run N k s t → Run N (suc k) s t
-    up = run_up N k (suc k) (omega arith)
-
-    -- from v by its label, the end s, pipe k and the end t to the label of t
-    over : (s t ls lt : ℕ) → Run N k v ls → Run N k s ls → Crosses N k s t → Run N k t lt → Run N (suc k) v lt
-    over s t ls lt from down c on =
-        run_then N (suc k) v ls lt (up v ls from)
-        (run_then N (suc k) ls s lt (run_back N (suc k) s ls (up s ls down))
-        (run_then N (suc k) s t lt (run_by N (suc k) k s t (omega arith) c) (up t lt on)))
-
-    go : (p ≤ q) ⊎ (q ≤ p) → Run N (suc k) v (min (label N k (N.first k)) (label N k (N.second k)))
-    go (inl h) =
-        let lv : label N k v ≡ label N k (N.second k) = omega arith in
-        let low : label N k (N.first k) ≡ min (label N k (N.first k)) (label N k (N.second k)) = omega arith in
-        subst (Run N (suc k) v) low (over b a q p (subst (Run N k v) lv to_v) to_q (inr (refl, refl)) to_p)
-    go (inr h) =
-        let lv : label N k v ≡ label N k (N.first k) = omega arith in
-        let low : label N k (N.second k) ≡ min (label N k (N.first k)) (label N k (N.second k)) = omega arith in
-        subst (Run N (suc k) v) low (over a b p q (subst (Run N k v) lv to_v) to_p (inl (refl, refl)) to_q)
+-- from v by its label, the end s, pipe k and the end t to the label of t
+over : (N : Shape) (k v s t : ℕ) → ((u : ℕ) → Run N k u (label N k u)) → label N k v ≡ label N k s → Crosses N k s t → Run N (suc k) v (label N k t)
+over N k v s t to e c =
+    let up : (a b : ℕ) → Run N k a b → Run N (suc k) a b = run_up N k (suc k) (omega arith) in
+    run_then N (suc k) v (label N k s) (label N k t) (up v (label N k s) (subst (Run N k v) e (to v)))
+    (run_then N (suc k) (label N k s) s (label N k t) (run_back N (suc k) s (label N k s) (up s (label N k s) (to s)))
+    (cross k t (omega arith) c (up t (label N k t) (to t))))
 
 pub to_label : (N : Shape) (k v : ℕ) → Run N k v (label N k v)
 to_label N zero v = stay refl
 to_label N (suc k) v =
-    by_eqb (λ t. Run N (suc k) v (cond t (min (label N k (N.first k)) (label N k (N.second k))) (label N k v))) (label N k v) (max (label N k (N.first k)) (label N k (N.second k)))
-    (λ e. lower N k v (to_label N k v) (to_label N k (N.first k)) (to_label N k (N.second k)) e)
-    (λ _. run_up N k (suc k) (omega arith) v (label N k v) (to_label N k v))
+    let to : (u : ℕ) → Run N k u (label N k u) = λ u. to_label N k u in
+    let p : ℕ = label N k (N.first k) in
+    let q : ℕ = label N k (N.second k) in
+    by_eqb (λ t. Run N (suc k) v (cond t (min p q) (label N k v))) (label N k v) (max p q)
+    (λ e. elim (cases_lt p q) [
+      | inl h ↦ subst (Run N (suc k) v) (omega arith) (over N k v (N.second k) (N.first k) to (omega arith) (inr (refl, refl)))
+      | inr h ↦ subst (Run N (suc k) v) (omega arith) (over N k v (N.first k) (N.second k) to (omega arith) (inl (refl, refl)))
+    ])
+    (λ _. run_up N k (suc k) (omega arith) v (label N k v) (to v))
 
 -- What a label is
 
 pub label_le : (N : Shape) (k v : ℕ) → label N k v ≤ v
 label_le N zero v = omega arith
-label_le N (suc k) v =
-    let h = label_le N k v in
-    by_eqb (λ t. cond t (min (label N k (N.first k)) (label N k (N.second k))) (label N k v) ≤ v) (label N k v) (max (label N k (N.first k)) (label N k (N.second k)))
-    (λ e. omega arith) (λ _. h)
+label_le N (suc k) v = let h = label_le N k v in grind (arith, nat_tests)
 
 pub label_label : (N : Shape) (k v : ℕ) → label N k (label N k v) ≡ label N k v
 label_label N k v = sym (label_run N k v (label N k v) (to_label N k v))
@@ -101,8 +63,7 @@ label_pos N g (suc k) l v h =
     let p = label_pos N g k (omega arith) (N.first k) (g k l).0.0 in
     let q = label_pos N g k (omega arith) (N.second k) (g k l).1.0 in
     let r = label_pos N g k (omega arith) v h in
-    by_eqb (λ t. 1 ≤ cond t (min (label N k (N.first k)) (label N k (N.second k))) (label N k v)) (label N k v) (max (label N k (N.first k)) (label N k (N.second k)))
-    (λ _. omega arith) (λ _. r)
+    grind (arith, nat_tests)
 
 pub labels_tell_parts : LabelsTellParts
 labels_tell_parts N k = (λ u v. (same_label N k u v, label_run N k u v), label_le N k, label_label N k)

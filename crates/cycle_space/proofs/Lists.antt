@@ -1,5 +1,8 @@
 -- Rings and rivals as lists of rows: full lists are bases, the exchange, the joined weight, the counts. Assumes nothing.
 use Rattle.std.proofs.Common.{◌≡◌, ℕ, zero, suc, ◌+◌, ◌<◌, Bool, true, cond, List, [], ◌∷◌, map, length, get_or, sym, refl, ap, ◌∙◌, subst, ap₂, inl, inr, arith}
+use Rattle.cycle_space.proofs.Bits.{row_of_bits}
+use Rattle.std.proofs.lemmas.List.FromFn.{length-map-range_with_len}
+use Rattle.std.proofs.lemmas.Bool.Decides.{nat_tests}
 use mathlib.Core.Path.{fun_ext}
 use Rattle.std.proofs.lemmas.List.{length-set, get_or-set_same, get_or-set_other}
 use Rattle.cycle_space.specs.Sums.{fold, count}
@@ -9,13 +12,12 @@ use Rattle.cycle_space.specs.Moments.{Moment, shape, weight}
 use Rattle.cycle_space.specs.Bases.{Closed, Basis}
 use Rattle.cycle_space.specs.Supports.{rank, Sound}
 use Rattle.cycle_space.specs.Rivals.{joined_weight, exchanged, Exchanges, how_many}
-use Rattle.cycle_space.proofs.Booleans.{by_eqb}
-use Rattle.cycle_space.proofs.Folds.{numbers, fold_front}
-use Rattle.cycle_space.proofs.Counting.{Different}
+use Rattle.cycle_space.proofs.Folds.{numbers, fold_front, dot_add}
+use Rattle.cycle_space.proofs.Counting.{Different, listed, listed_at}
 use Rattle.cycle_space.proofs.Linear.{Spans, Rings, replaced, Exchanged, Joins}
 use Rattle.cycle_space.proofs.Exchanges.{origin, exchange}
 use Rattle.cycle_space.proofs.Counts.{same_size, lighter}
-use Rattle.cycle_space.proofs.Spaces.{none, xors, Cycle, odd_sets, odd_adds, space, row_back, to_spans, from_spans, listed, listed_length, listed_at}
+use Rattle.cycle_space.proofs.Spaces.{none, xors, Cycle, odd_sets, space, to_spans, from_spans}
 use Rattle.cycle_space.proofs.Supports.{sound_rings, not_yet, full}
 
 -- The exchanged list
@@ -87,67 +89,64 @@ module _ {M : Type 0} {zero' : M} {join : M → M → M} {within : M → M → B
       Swap f = Exchanged none xors (Cycle (shape n)) within (λ x. weight zero' join n (row_of x)) (length ours) (λ i. bit (get_or ours i empty)) (length rival) (λ i. bit (get_or rival i empty)) f
 
       pub swap : (f : ℕ → ℕ) × Swap f
-      swap = exchange (space (shape n)) (λ i. odd_adds (bit (support i))) our_rings (to_spans (shape n) s.few_pipes rival b)
+      swap = exchange (space (shape n)) (λ i. dot_add 256 (bit (support i))) our_rings (to_spans (shape n) s.few_pipes rival b)
 
       weighs : (r : Row) → Closed (shape n) r → weight zero' join n (row_of (bit r)) ≡ weight zero' join n r
-      weighs r c = ap (weight zero' join n) (row_back (shape n).pipes r c.of_pipes)
+      weighs r c = ap (weight zero' join n) (row_of_bits r c.of_pipes.words)
 
-      heavy : (f : ℕ → ℕ) → Swap f → (i : ℕ) → i < length ours
-          → within (weight zero' join n (get_or ours i empty)) (weight zero' join n (get_or rival (f i) empty)) ≡ true
-      heavy f ex i l =
-          sym (ap₂ within (weighs (get_or ours i empty) (s.closed i l)) (weighs (get_or rival (f i) empty) (b.members (f i) (ex.places.within i l))))
-          ∙ ex.heavier i l
+      module _ (f : ℕ → ℕ) (ex : Swap f) where
+        heavy : (i : ℕ) → i < length ours → within (weight zero' join n (get_or ours i empty)) (weight zero' join n (get_or rival (f i) empty)) ≡ true
+        heavy i l =
+            sym (ap₂ within (weighs (get_or ours i empty) (s.closed i l)) (weighs (get_or rival (f i) empty) (b.members (f i) (ex.places.within i l))))
+            ∙ ex.heavier i l
 
-      at_place : (f : ℕ → ℕ) → Swap f → (j : ℕ) → get_or (exchanged rival (listed (length ours) f) ours) j empty ≡ replaced (λ i. get_or rival i empty) (λ i. get_or ours i empty) f (length ours) j
-      at_place f ex j =
-          elim (origin (λ i. get_or rival i empty) (λ i. get_or ours i empty) f (length ours) j) [
-            | inl o ↦
-                ap (λ p. get_or (exchanged rival ps ours) p empty) (sym o.2 ∙ sym (at o.0 o.1))
-                ∙ exchanged_at rival ps ours long
-                (λ i l. subst (λ p. p < length rival) (sym (at i (omega (arith, long)))) (ex.places.within i (omega (arith, long))))
-                (λ i l hi hl q. ex.places.apart i l (omega (arith, long)) (omega (arith, long)) (sym (at i (omega (arith, long))) ∙ q ∙ at l (omega (arith, long))))
-                o.0 (omega (arith, long, o.1))
-                ∙ sym o.3
-            | inr o ↦ exchanged_other rival ps ours j (λ i l q. o.0 i (omega (arith, long)) (sym (at i (omega (arith, long))) ∙ q)) ∙ sym o.1
-          ]
-        where
-          ps : List ℕ
-          ps = listed (length ours) f
+        abbrev spots : List ℕ
+        spots = listed (length ours) f
 
-          long : length ps ≡ length ours
-          long = listed_length (length ours) f
+        long : length spots ≡ length ours
+        long = length-map-range_with_len f 0 (length ours)
 
-          at : (i : ℕ) → i < length ours → get_or ps i 0 ≡ f i
-          at i l = listed_at (length ours) f 0 i l
+        at : (i : ℕ) → i < length ours → get_or spots i 0 ≡ f i
+        at i l = listed_at (length ours) f 0 i l
+
+        inside : (i : ℕ) → i < length spots → get_or spots i 0 < length rival
+        inside i l = let e = long in let a = at i in let b = ex.places.within i in grind arith
+
+        apart : (i j : ℕ) → i < length spots → j < length spots → get_or spots i 0 ≡ get_or spots j 0 → i ≡ j
+        apart i j hi hj q = let e = long in let a = at i in let b = at j in let c = ex.places.apart i j in grind arith
+
+        at_place : (j : ℕ) → get_or (exchanged rival spots ours) j empty ≡ replaced (λ i. get_or rival i empty) (λ i. get_or ours i empty) f (length ours) j
+        at_place j =
+            elim (origin (λ i. get_or rival i empty) (λ i. get_or ours i empty) f (length ours) j) [
+              | inl o ↦
+                  ap (λ p. get_or (exchanged rival spots ours) p empty) (sym o.2 ∙ sym (at o.0 o.1))
+                  ∙ exchanged_at rival spots ours long inside apart o.0 (omega (arith, long, o.1)) ∙ sym o.3
+              | inr o ↦ exchanged_other rival spots ours j (λ i l q. o.0 i (omega (arith, long)) (sym (at i (omega (arith, long))) ∙ q)) ∙ sym o.1
+            ]
+
+        closed_place : (j : ℕ) → j < length rival → Closed (shape n) (replaced (λ i. get_or rival i empty) (λ i. get_or ours i empty) f (length ours) j)
+        closed_place j l =
+            elim (origin (λ i. get_or rival i empty) (λ i. get_or ours i empty) f (length ours) j) [
+              | inl o ↦ subst (Closed (shape n)) (sym o.3) (s.closed o.0 o.1)
+              | inr o ↦ subst (Closed (shape n)) (sym o.1) (b.members j l)
+            ]
 
       bit_replaced : (f : ℕ → ℕ) (k j : ℕ) → bit (replaced (λ i. get_or rival i empty) (λ i. get_or ours i empty) f k j) ≡ replaced (λ i. bit (get_or rival i empty)) (λ i. bit (get_or ours i empty)) f k j
       bit_replaced f zero j = refl
-      bit_replaced f (suc k) j =
-          by_eqb (λ t. bit (cond t (get_or ours k empty) (replaced (λ i. get_or rival i empty) (λ i. get_or ours i empty) f k j)) ≡ cond t (bit (get_or ours k empty)) (replaced (λ i. bit (get_or rival i empty)) (λ i. bit (get_or ours i empty)) f k j)) j (f k)
-          (λ _. refl) (λ _. bit_replaced f k j)
-
-      closed_place : (f : ℕ → ℕ) → Swap f → (j : ℕ) → j < length rival → Closed (shape n) (replaced (λ i. get_or rival i empty) (λ i. get_or ours i empty) f (length ours) j)
-      closed_place f ex j l =
-          elim (origin (λ i. get_or rival i empty) (λ i. get_or ours i empty) f (length ours) j) [
-            | inl o ↦ subst (Closed (shape n)) (sym o.3) (s.closed o.0 o.1)
-            | inr o ↦ subst (Closed (shape n)) (sym o.1) (b.members j l)
-          ]
+      bit_replaced f (suc k) j = let r = bit_replaced f k j in grind (arith, nat_tests)
 
       pub exchanges : Exchanges zero' join within n ours rival
       exchanges =
           let f = swap.0 in
           let ex = swap.1 in
-          let ps : List ℕ = listed (length ours) f in
-          let long : length ps ≡ length ours = listed_length (length ours) f in
-          let at : (i : ℕ) → i < length ours → get_or ps i 0 ≡ f i = λ i l. listed_at (length ours) f 0 i l in
-          let new : List Row = exchanged rival ps ours in
-          let size : length new ≡ length rival = exchanged_length rival ps ours in
+          let new : List Row = exchanged rival (spots f ex) ours in
+          let size : length new ≡ length rival = exchanged_length rival (spots f ex) ours in
           record {
-            places = ps;
-            one_each = long;
-            members = λ i l. subst (λ p. p < length rival) (sym (at i (omega arith))) (ex.places.within i (omega arith));
-            different = λ i j hi hj q. ex.places.apart i j (omega arith) (omega arith) (sym (at i (omega arith)) ∙ q ∙ at j (omega arith));
-            no_heavier = λ i l. ap (λ p. within (weight zero' join n (get_or ours i empty)) (weight zero' join n (get_or rival p empty))) (at i l) ∙ heavy f ex i l;
+            places = spots f ex;
+            one_each = long f ex;
+            members = inside f ex;
+            different = apart f ex;
+            no_heavier = λ i l. ap (λ p. within (weight zero' join n (get_or ours i empty)) (weight zero' join n (get_or rival p empty))) (at f ex i l) ∙ heavy f ex i l;
             basis = from_spans (shape n) s.few_pipes new
                 (λ j l. subst (Closed (shape n)) (sym (at_place f ex j)) (closed_place f ex j (omega arith)))
                 (subst (λ (k : ℕ). Spans none xors (Cycle (shape n)) k (λ j. bit (get_or new j empty))) (sym size)

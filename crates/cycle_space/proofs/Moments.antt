@@ -1,13 +1,9 @@
 -- Nets at a moment, as they are changed. Assumes nothing.
-use Rattle.std.proofs.Common.{◌≡◌, ℕ, zero, suc, ◌-◌, List, [], ◌∷◌, ◌++◌, map, length, take, set, refl, ap, ◌∙◌, ap₂, arith}
-use Rattle.std.proofs.lemmas.List.{length-append}
+use Rattle.std.proofs.Common.{◌≡◌, ℕ, zero, suc, ◌-◌, List, [], ◌∷◌, ◌++◌, map, length, set, refl, ap, ap₂, arith}
+use Rattle.std.proofs.lemmas.List.{length-append, take_at}
 use Rattle.cycle_space.specs.Moments.{Pipe, drawn, reweighed, MomentLaws}
 
 module _ {M : Type 0} where
-  take_front : (ps qs : List (Pipe M)) → take (length ps) (ps ++ qs) ≡ ps
-  take_front [] qs = refl
-  take_front (p ∷ ps) qs = ap (λ xs. p ∷ xs) (take_front ps qs)
-
   -- what a reweighing does not look at
   ends_stay : (f : Pipe M → ℕ) → ((p : Pipe M) (w : M) → f (record { first = p.first; second = p.second; weight = w }) ≡ f p)
       → (ps : List (Pipe M)) (j : ℕ) (w : M) → map f (reweighed ps j w) ≡ map f ps
@@ -24,8 +20,7 @@ pub moment_laws : {M : Type 0} → MomentLaws M
 moment_laws = record {
   lift_undoes_lay = λ n a b w.
       let p : Pipe _ = record { first = a; second = b; weight = w } in
-      let size : length (n.pipes ++ (p ∷ [])) - 1 ≡ length n.pipes = (let l = length-append n.pipes (p ∷ []) in omega arith) in
-      ap (λ ps. record { nodes = n.nodes; pipes = ps }) (ap (λ k. take k (n.pipes ++ (p ∷ []))) size ∙ take_front n.pipes (p ∷ []));
+      ap (λ ps. record { nodes = n.nodes; pipes = ps }) (take_at n.pipes (p ∷ []) (length (n.pipes ++ (p ∷ [])) - 1) (let l = length-append n.pipes (p ∷ []) in omega arith));
   reweigh_keeps_ends = λ n j w.
       ap₂ (λ (xs ys : List ℕ). drawn n.nodes xs ys) (ends_stay (λ p. p.first) (λ p v. refl) n.pipes (j - 1) w) (ends_stay (λ p. p.second) (λ p v. refl) n.pipes (j - 1) w);
   reweigh_sets_weight = λ n j w. weight_set n.pipes (j - 1) w;

@@ -1,62 +1,39 @@
 -- Two lists with the same pipes are paired, pipe for pipe. Assumes nothing.
-use Rattle.std.proofs.Common.{◌≡◌, ℕ, zero, suc, ◌+◌, ◌<◌, ◌⊎◌, ◌↔◌, List, [], ◌∷◌, length, get_or, sym, refl, ap, ◌∙◌, subst, inl, inr, arith}
-use native.Mathlib.Decide.{ℕ_discrete}
+use Rattle.std.proofs.Common.{◌≡◌, ℕ, zero, suc, ◌+◌, ◌-◌, ◌<◌, Bool, true, false, cond, ◌&&◌, ◌||◌, eqb, ltb, ◌↔◌, List, [], ◌∷◌, length, get_or, sym, refl, ap, subst, inl, inr, arith}
+use Rattle.std.specs.List.{count_by, remove}
+use Rattle.std.proofs.lemmas.Bool.{and_parts, cases_Bool, cond_both}
+use Rattle.std.proofs.lemmas.Bool.Decides.{nat_tests}
+use Rattle.std.proofs.lemmas.List.Edits.{length-remove, get_or-remove_below, get_or-remove_above}
+use Rattle.std.proofs.lemmas.List.Sums.{sum_by-cons, sum_by-remove}
+use Rattle.std.proofs.Math.Bool.{decide, decide_iff}
 use Rattle.cycle_space.specs.Moments.{Pipe}
 use Rattle.cycle_space.specs.Rivals.{Links, Between, none, one, other}
+use Rattle.cycle_space.proofs.Booleans.{by_eqb, not_so}
 
 -- q links the nodes that p links, and weighs the same
 pub record Match {M : Type 0} (p q : Pipe M) : Type 0 where
   pub links : Links p.first p.second q
   pub weighs : q.weight ≡ p.weight
 
-match_same : {M : Type 0} (p : Pipe M) → Match p p
-match_same p = record { links = inl (refl, refl); weighs = refl }
-
-links_along : {M : Type 0} (p q : Pipe M) (u v : ℕ) → Match p q → Links u v p → Links u v q
-links_along p q u v m e = go m.links e
-  where
-    go : Links p.first p.second q → Links u v p → Links u v q
-    go (inl a) (inl b) = inl (a.0 ∙ b.0, a.1 ∙ b.1)
-    go (inl a) (inr b) = inr (a.0 ∙ b.0, a.1 ∙ b.1)
-    go (inr a) (inl b) = inr (a.0 ∙ b.1, a.1 ∙ b.0)
-    go (inr a) (inr b) = inl (a.0 ∙ b.1, a.1 ∙ b.0)
-
 pub match_back : {M : Type 0} (p q : Pipe M) → Match p q → Match q p
-match_back p q m = record { links = go m.links; weighs = sym m.weighs }
-  where
-    go : Links p.first p.second q → Links q.first q.second p
-    go (inl a) = inl (sym a.0, sym a.1)
-    go (inr a) = inr (sym a.1, sym a.0)
+match_back p q m = record { links = let l = m.links in grind arith; weighs = sym m.weighs }
 
-match_then : {M : Type 0} (p q r : Pipe M) → Match p q → Match q r → Match p r
-match_then p q r m n = record { links = links_along q r p.first p.second n m.links; weighs = n.weighs ∙ m.weighs }
+-- places where one more, the first, goes to i; and back
+abbrev rise : ℕ → (ℕ → ℕ) → ℕ → ℕ
+rise i f zero = i
+rise i f (suc k) = cond (ltb (f k) i) (f k) (suc (f k))
 
-abbrev lift : (ℕ → ℕ) → ℕ → ℕ
-lift f zero = zero
-lift f (suc i) = suc (f i)
+abbrev fall : ℕ → (ℕ → ℕ) → ℕ → ℕ
+fall i g m = cond (eqb m i) 0 (suc (g (cond (ltb m i) m (m - 1))))
 
-abbrev swap : ℕ → ℕ
-swap zero = 1
-swap (suc zero) = 0
-swap (suc (suc i)) = suc (suc i)
+fall_rise : (i : ℕ) (f g : ℕ → ℕ) → ((k : ℕ) → g (f k) ≡ k) → (k : ℕ) → fall i g (rise i f k) ≡ k
+fall_rise i f g back zero = grind (arith, nat_tests)
+fall_rise i f g back (suc k) = let e = back k in grind (arith, nat_tests)
 
-swap_swap : (i : ℕ) → swap (swap i) ≡ i
-swap_swap zero = refl
-swap_swap (suc zero) = refl
-swap_swap (suc (suc i)) = refl
-
-swap_in : (n i : ℕ) → i < suc (suc n) → swap i < suc (suc n)
-swap_in n zero l = omega arith
-swap_in n (suc zero) l = omega arith
-swap_in n (suc (suc i)) l = l
-
-lift_back : (f g : ℕ → ℕ) → ((i : ℕ) → g (f i) ≡ i) → (i : ℕ) → lift g (lift f i) ≡ i
-lift_back f g h zero = refl
-lift_back f g h (suc i) = ap suc (h i)
-
-lift_in : (n : ℕ) (f : ℕ → ℕ) → ((i : ℕ) → i < n → f i < n) → (i : ℕ) → i < suc n → lift f i < suc n
-lift_in n f h zero l = omega arith
-lift_in n f h (suc i) l = let r = h i (omega arith) in omega arith
+rise_fall : (i : ℕ) (f g : ℕ → ℕ) → ((k : ℕ) → f (g k) ≡ k) → (m : ℕ) → rise i f (fall i g m) ≡ m
+rise_fall i f g forth m =
+    by_eqb (λ t. rise i f (cond t 0 (suc (g (cond (ltb m i) m (m - 1))))) ≡ m) m i sym
+    (λ ne. let e = forth (cond (ltb m i) m (m - 1)) in grind (arith, nat_tests))
 
 module _ {M : Type 0} (d : Pipe M) where
   -- the pipe i of the first list goes with the pipe to i of the second
@@ -69,18 +46,6 @@ module _ {M : Type 0} (d : Pipe M) where
     pub to_in : (i : ℕ) → i < length ps → to i < length ps
     pub from_in : (i : ℕ) → i < length ps → from i < length ps
     pub fits : (i : ℕ) → i < length ps → Match (get_or ps i d) (get_or qs (to i) d)
-
-  paired_same : (ps : List (Pipe M)) → Paired ps ps
-  paired_same ps = record {
-    to = λ i. i;
-    from = λ i. i;
-    back = λ i. refl;
-    forth = λ i. refl;
-    long = refl;
-    to_in = λ i l. l;
-    from_in = λ i l. l;
-    fits = λ i l. match_same (get_or ps i d);
-  }
 
   unfoldable pub paired_back : {ps qs : List (Pipe M)} → Paired ps qs → Paired qs ps
   paired_back {ps} {qs} p = record {
@@ -97,162 +62,119 @@ module _ {M : Type 0} (d : Pipe M) where
         (subst (λ j. Match (get_or ps (p.from i) d) (get_or qs j d)) (p.forth i) (p.fits (p.from i) (p.from_in i (omega arith))));
   }
 
-  paired_then : {ps qs rs : List (Pipe M)} → Paired ps qs → Paired qs rs → Paired ps rs
-  paired_then {ps} {qs} {rs} p q = record {
-    to = λ i. q.to (p.to i);
-    from = λ i. p.from (q.from i);
-    back = λ i. ap p.from (q.back (p.to i)) ∙ p.back i;
-    forth = λ i. ap q.to (p.forth (q.from i)) ∙ q.forth i;
-    long = p.long ∙ q.long;
-    to_in = λ i l. let e = p.long in let r = p.to_in i l in let s = q.to_in (p.to i) (omega arith) in omega arith;
-    from_in = λ i l. let e = p.long in let s = q.from_in i (omega arith) in p.from_in (q.from i) (omega arith);
-    fits = λ i l.
-        let e = p.long in
-        let r = p.to_in i l in
-        match_then (get_or ps i d) (get_or qs (p.to i) d) (get_or rs (q.to (p.to i)) d) (p.fits i l) (q.fits (p.to i) (omega arith));
-  }
-
-  paired_cons : (a b : Pipe M) {ps qs : List (Pipe M)} → Match a b → Paired ps qs → Paired (a ∷ ps) (b ∷ qs)
-  paired_cons a b {ps} {qs} m p = record {
-    to = lift p.to;
-    from = lift p.from;
-    back = lift_back p.to p.from p.back;
-    forth = lift_back p.from p.to p.forth;
-    long = ap suc p.long;
-    to_in = lift_in (length ps) p.to p.to_in;
-    from_in = lift_in (length ps) p.from p.from_in;
-    fits = go;
-  }
-    where
-      go : (i : ℕ) → i < suc (length ps) → Match (get_or (a ∷ ps) i d) (get_or (b ∷ qs) (lift p.to i) d)
-      go zero l = m
-      go (suc i) l = p.fits i (omega arith)
-
-  paired_swap : (a b : Pipe M) (ps : List (Pipe M)) → Paired (a ∷ b ∷ ps) (b ∷ a ∷ ps)
-  paired_swap a b ps = record {
-    to = swap;
-    from = swap;
-    back = swap_swap;
-    forth = swap_swap;
+  paired_none : Paired [] []
+  paired_none = record {
+    to = λ i. i;
+    from = λ i. i;
+    back = λ i. refl;
+    forth = λ i. refl;
     long = refl;
-    to_in = swap_in (length ps);
-    from_in = swap_in (length ps);
-    fits = go;
+    to_in = λ i l. l;
+    from_in = λ i l. l;
+    fits = λ i l. absurd (omega arith);
+  }
+
+  -- one pipe more, which goes with the pipe i
+  paired_at : (a : Pipe M) (ps qs : List (Pipe M)) (i : ℕ) → i < length qs → Match a (get_or qs i d) → Paired ps (remove qs i) → Paired (a ∷ ps) qs
+  paired_at a ps qs i l m p = record {
+    to = rise i p.to;
+    from = fall i p.from;
+    back = fall_rise i p.to p.from p.back;
+    forth = rise_fall i p.to p.from p.forth;
+    long = omega (arith, size, p.long);
+    to_in = to_in;
+    from_in = λ k h. let r = p.from_in (cond (ltb k i) k (k - 1)) in let e = p.long in let s = size in grind (arith, nat_tests);
+    fits = fits;
   }
     where
-      go : (i : ℕ) → i < suc (suc (length ps)) → Match (get_or (a ∷ b ∷ ps) i d) (get_or (b ∷ a ∷ ps) (swap i) d)
-      go zero l = match_same a
-      go (suc zero) l = match_same b
-      go (suc (suc i)) l = match_same (get_or ps i d)
+      size : length (remove qs i) + 1 ≡ length qs
+      size = length-remove qs i l
 
-  without : ℕ → List (Pipe M) → List (Pipe M)
-  without i [] = []
-  without zero (x ∷ xs) = xs
-  without (suc i) (x ∷ xs) = x ∷ without i xs
+      to_in : (k : ℕ) → k < suc (length ps) → rise i p.to k < suc (length ps)
+      to_in zero h = omega (arith, size, p.long)
+      to_in (suc k) h = let r = p.to_in k in grind (arith, nat_tests)
 
-  to_front : (i : ℕ) (ps : List (Pipe M)) → i < length ps → Paired (get_or ps i d ∷ without i ps) ps
-  unfolding without
-  to_front i [] l = absurd (omega arith)
-  to_front zero (x ∷ xs) l = paired_same (x ∷ xs)
-  to_front (suc i) (x ∷ xs) l =
-      paired_then (paired_swap (get_or xs i d) x (without i xs)) (paired_cons x x (match_same x) (to_front i xs (omega arith)))
+      fits : (k : ℕ) → k < suc (length ps) → Match (get_or (a ∷ ps) k d) (get_or qs (rise i p.to k) d)
+      fits zero h = m
+      fits (suc k) h = subst (Match (get_or ps k d)) there (p.fits k (omega arith))
+        where
+          there : get_or (remove qs i) (p.to k) d ≡ get_or qs (rise i p.to (suc k)) d
+          there =
+              let low = get_or-remove_below qs i d (p.to k) in
+              let high = get_or-remove_above qs i d (p.to k) in
+              grind (arith, nat_tests)
 
   module _ (same : (a b : M) → Dec (a ≡ b)) where
     abbrev Such : ℕ → ℕ → M → Pipe M → Type 0
     Such u v w p = Links u v p × (p.weight ≡ w)
 
-    two : (A B : Type 0) → Dec A → Dec B → Dec (A × B)
-    two A B (yes a) (yes b) = yes (a, b)
-    two A B (yes a) (no b) = no (λ p. b p.1)
-    two A B (no a) b = no (λ p. a p.0)
+    abbrev such : ℕ → ℕ → M → Pipe M → Bool
+    such u v w p = ((eqb p.first u && eqb p.second v) || (eqb p.first v && eqb p.second u)) && decide (same p.weight w)
 
-    either : (A B : Type 0) → Dec A → Dec B → Dec (A ⊎ B)
-    either A B (yes a) b = yes (inl a)
-    either A B (no a) (yes b) = yes (inr b)
-    either A B (no a) (no b) = no (elim [ inl x ↦ a x | inr y ↦ b y ])
-
-    such : (u v : ℕ) (w : M) (p : Pipe M) → Dec (Such u v w p)
-    such u v w p =
-        two (Links u v p) (p.weight ≡ w)
-        (either ((p.first ≡ u) × (p.second ≡ v)) ((p.first ≡ v) × (p.second ≡ u))
-        (two (p.first ≡ u) (p.second ≡ v) (ℕ_discrete p.first u) (ℕ_discrete p.second v))
-        (two (p.first ≡ v) (p.second ≡ u) (ℕ_discrete p.first v) (ℕ_discrete p.second u)))
-        (same p.weight w)
-
-    abbrev tick : {A : Type 0} → Dec A → ℕ
-    tick (yes a) = 1
-    tick (no a) = 0
+    told : (u v : ℕ) (w : M) (p : Pipe M) → (such u v w p ≡ true) ↔ Such u v w p
+    told u v w p = (
+      λ e. let weighs = decide (same p.weight w) in
+          let links : Links u v p = grind (arith, nat_tests) in
+          (links, (decide_iff (same p.weight w)).0 (and_parts ((eqb p.first u && eqb p.second v) || (eqb p.first v && eqb p.second u)) (decide (same p.weight w)) e).1),
+      λ s. let links = s.0 in let weighs = (decide_iff (same p.weight w)).1 s.1 in grind (arith, nat_tests),
+    )
 
     abbrev many : ℕ → ℕ → M → List (Pipe M) → ℕ
-    many u v w [] = 0
-    many u v w (p ∷ ps) = tick (such u v w p) + many u v w ps
+    many u v w ps = count_by (such u v w) ps
+
+    many_cons : (u v : ℕ) (w : M) (p : Pipe M) (ps : List (Pipe M)) → many u v w (p ∷ ps) ≡ cond (such u v w p) 1 0 + many u v w ps
+    many_cons u v w p ps = sum_by-cons (λ p. cond (such u v w p) 1 0) p ps
 
     between_many : (u v : ℕ) (w : M) (ps : List (Pipe M)) → Between u v w ps (many u v w ps)
     between_many u v w [] = none
-    between_many u v w (p ∷ ps) = go (such u v w p) (between_many u v w ps)
-      where
-        go : (x : Dec (Such u v w p)) → Between u v w ps (many u v w ps) → Between u v w (p ∷ ps) (tick x + many u v w ps)
-        go (yes s) b = subst (Between u v w (p ∷ ps)) (let q : suc (many u v w ps) ≡ 1 + many u v w ps = omega arith in q) (one s.0 s.1 b)
-        go (no s) b = subst (Between u v w (p ∷ ps)) (let q : many u v w ps ≡ 0 + many u v w ps = omega arith in q) (other (λ e f. s (e, f)) b)
+    between_many u v w (p ∷ ps) =
+        let b = between_many u v w ps in
+        subst (Between u v w (p ∷ ps)) (sym (many_cons u v w p ps))
+        (cond_both (such u v w p) 1 0 (λ k. Between u v w (p ∷ ps) (k + many u v w ps))
+        (λ e. let s = (told u v w p).0 e in subst (Between u v w (p ∷ ps)) (omega arith) (one s.0 s.1 b))
+        (λ e. subst (Between u v w (p ∷ ps)) (omega arith) (other (λ f g. let t = (told u v w p).1 (f, g) in grind arith) b)))
 
     many_between : (u v : ℕ) (w : M) {ps : List (Pipe M)} {k : ℕ} → Between u v w ps k → k ≡ many u v w ps
     many_between u v w none = refl
-    many_between u v w (one {p = p} {ps = ps} {k = k} e f b) = go (such u v w p) (many_between u v w b)
-      where
-        go : (x : Dec (Such u v w p)) → k ≡ many u v w ps → suc k ≡ tick x + many u v w ps
-        go (yes s) r = omega arith
-        go (no s) r = absurd (s (e, f))
-    many_between u v w (other {p = p} {ps = ps} {k = k} h b) = go (such u v w p) (many_between u v w b)
-      where
-        go : (x : Dec (Such u v w p)) → k ≡ many u v w ps → k ≡ tick x + many u v w ps
-        go (yes s) r = absurd (h s.0 s.1)
-        go (no s) r = omega arith
+    many_between u v w (one {p = p} {ps = ps} {k = k} e f b) =
+        let r = many_between u v w b in let c = many_cons u v w p ps in let t = (told u v w p).1 (e, f) in grind arith
+    many_between u v w (other {p = p} {ps = ps} {k = k} h b) =
+        let r = many_between u v w b in
+        let c = many_cons u v w p ps in
+        let t : such u v w p ≡ false = not_so (such u v w p) (λ e. let s = (told u v w p).0 e in h s.0 s.1) in
+        grind arith
 
-    tick_match : (u v : ℕ) (w : M) (p q : Pipe M) → Match p q → tick (such u v w p) ≡ tick (such u v w q)
-    tick_match u v w p q m = go (such u v w p) (such u v w q)
-      where
-        go : (x : Dec (Such u v w p)) (y : Dec (Such u v w q)) → tick x ≡ tick y
-        go (yes s) (yes t) = refl
-        go (yes s) (no t) = absurd (t (links_along p q u v m s.0, m.weighs ∙ s.1))
-        go (no s) (yes t) = absurd (s (links_along q p u v (match_back p q m) t.0, sym m.weighs ∙ t.1))
-        go (no s) (no t) = refl
-
-    many_without : (u v : ℕ) (w : M) (i : ℕ) (ps : List (Pipe M)) → i < length ps → many u v w ps ≡ tick (such u v w (get_or ps i d)) + many u v w (without i ps)
-    unfolding without
-    many_without u v w i [] l = absurd (omega arith)
-    many_without u v w zero (x ∷ xs) l = refl
-    many_without u v w (suc i) (x ∷ xs) l = let r = many_without u v w i xs (omega arith) in omega arith
+    such_match : (u v : ℕ) (w : M) (p q : Pipe M) → Match p q → such u v w p ≡ such u v w q
+    such_match u v w p q m = let links = m.links in let weighs = ap (λ x. decide (same x w)) m.weighs in grind (arith, nat_tests)
 
     find : (u v : ℕ) (w : M) (ps : List (Pipe M)) → 0 < many u v w ps → (i : ℕ) × (i < length ps) × Such u v w (get_or ps i d)
     find u v w [] h = absurd (omega arith)
-    find u v w (p ∷ ps) h = go (such u v w p) h (find u v w ps)
-      where
-        go : (x : Dec (Such u v w p)) → 0 < tick x + many u v w ps → (0 < many u v w ps → (i : ℕ) × (i < length ps) × Such u v w (get_or ps i d))
-            → (i : ℕ) × (i < suc (length ps)) × Such u v w (get_or (p ∷ ps) i d)
-        go (yes s) h ih = (0, omega arith, s)
-        go (no s) h ih = let r = ih (omega arith) in (suc r.0, omega (arith, r.1), r.2)
-
-    tick_own : (p : Pipe M) → tick (such p.first p.second p.weight p) ≡ 1
-    tick_own p = go (such p.first p.second p.weight p)
-      where
-        go : (x : Dec (Such p.first p.second p.weight p)) → tick x ≡ 1
-        go (yes s) = refl
-        go (no s) = absurd (s (inl (refl, refl), refl))
+    find u v w (p ∷ ps) h = elim (cases_Bool (such u v w p)) [
+      | inl e ↦ (0, omega arith, (told u v w p).0 e)
+      | inr e ↦ let c = many_cons u v w p ps in let r = find u v w ps (grind arith) in (suc r.0, omega (arith, r.1), r.2)
+    ]
 
     pairing : (ps qs : List (Pipe M)) → ((u v : ℕ) (w : M) → many u v w ps ≡ many u v w qs) → Paired ps qs
-    pairing [] [] h = paired_same []
-    pairing [] (q ∷ qs) h = absurd (let e = h q.first q.second q.weight in let o = tick_own q in omega arith)
+    pairing [] [] h = paired_none
+    pairing [] (q ∷ qs) h =
+        let e = h q.first q.second q.weight in
+        let c = many_cons q.first q.second q.weight q qs in
+        let own = (told q.first q.second q.weight q).1 (inl (refl, refl), refl) in
+        absurd (grind arith)
     pairing (p ∷ ps) qs h =
         let e = h p.first p.second p.weight in
-        let o = tick_own p in
-        let f = find p.first p.second p.weight qs (omega arith) in
-        let i = f.0 in
-        let q : Pipe M = get_or qs i d in
-        let m : Match p q = record { links = f.2.0; weighs = f.2.1 } in
-        paired_then
-        (paired_cons p q m (pairing ps (without i qs)
-        (λ u v w. let a = h u v w in let b = many_without u v w i qs f.1 in let c = tick_match u v w p q m in omega arith)))
-        (to_front i qs f.1)
+        let c = many_cons p.first p.second p.weight p ps in
+        let own = (told p.first p.second p.weight p).1 (inl (refl, refl), refl) in
+        let f = find p.first p.second p.weight qs (grind arith) in
+        let m : Match p (get_or qs f.0 d) = record { links = f.2.0; weighs = f.2.1 } in
+        paired_at p ps qs f.0 f.1 m
+        (pairing ps (remove qs f.0)
+        (λ u v w.
+        let a = h u v w in
+        let b = sum_by-remove (λ p. cond (such u v w p) 1 0) qs f.0 d f.1 in
+        let c = many_cons u v w p ps in
+        let t = such_match u v w p (get_or qs f.0 d) m in
+        grind arith))
 
     pub paired : (ps qs : List (Pipe M)) → ((u v : ℕ) (w : M) (k : ℕ) → Between u v w ps k ↔ Between u v w qs k) → Paired ps qs
     paired ps qs h = pairing ps qs (λ u v w. many_between u v w ((h u v w (many u v w ps)).0 (between_many u v w ps)))

@@ -1,29 +1,19 @@
 -- The parity of two rows: the sum over GF(2) of the products of their bits, by words, and its laws. Assumes nothing.
-use Rattle.std.proofs.Common.{◌≡◌, ℕ, zero, suc, ◌+◌, ◌*◌, ◌/◌, ◌%◌, ◌^◌, ◌<◌, Bool, true, false, cond, not, ◌&&◌, eqb, get_or, sym, refl, ap, ◌∙◌, ap₂, pow-suc, arith}
+use Rattle.std.proofs.Common.{◌≡◌, ℕ, zero, suc, ◌+◌, ◌*◌, ◌/◌, ◌%◌, ◌^◌, ◌<◌, Bool, false, ◌&&◌, eqb, get_or, sym, refl, ap, ◌∙◌, ap₂, pow-suc, arith}
+use Rattle.std.proofs.lemmas.Bool.Decides.{nat_tests}
 use lib.Bits.{bit_and, bit_xor}
 use lib.Count.{ones, ones_step, ones-le}
 use Rattle.cycle_space.specs.Sums.{fold}
 use Rattle.cycle_space.specs.Rows.{Row, bit, empty, add2, sum, common, odd, ParityLaws}
-use Rattle.cycle_space.proofs.Booleans.{by_eqb, and_comm, add2_and}
+use Rattle.cycle_space.proofs.Booleans.{and_comm, add2_and}
 use Rattle.cycle_space.proofs.Folds.{bits, fold_same, fold_two, fold_none, fold_front, fold_add}
 use Rattle.cycle_space.proofs.Bits.{bit_at, bit_at_and, bit_at_xor, bit_low, bit_suc, bit_of_word, empty_bit, sum_bit}
-
-pub odd_suc : (n : ℕ) → eqb ((1 + n) % 2) 1 ≡ not (eqb (n % 2) 1)
-odd_suc n =
-    by_eqb (λ b. eqb ((1 + n) % 2) 1 ≡ not b) (n % 2) 1
-    (λ q. ap (λ x. eqb x 1) (let z : (1 + n) % 2 ≡ 0 = omega arith in z))
-    (λ q. ap (λ x. eqb x 1) (let z : (1 + n) % 2 ≡ 1 = omega arith in z))
 
 -- the parity of a count is a sum over GF(2)
 pub common_parity : (x y : Row) (m : ℕ) → eqb (common x y m % 2) 1 ≡ fold false add2 m (λ j. bit x j && bit y j)
 unfolding common fold
 common_parity x y zero = refl
-common_parity x y (suc m) = step (bit x m) (bit y m) (common x y m) ∙ ap (add2 (bit x m && bit y m)) (common_parity x y m)
-  where
-    step : (a b : Bool) (n : ℕ) → eqb ((cond a (cond b 1 0) 0 + n) % 2) 1 ≡ add2 (a && b) (eqb (n % 2) 1)
-    step true true n = odd_suc n
-    step true false n = ap (λ x. eqb x 1) (let z : (0 + n) % 2 ≡ n % 2 = omega arith in z)
-    step false b n = ap (λ x. eqb x 1) (let z : (0 + n) % 2 ≡ n % 2 = omega arith in z)
+common_parity x y (suc m) = let r = common_parity x y m in grind (arith, nat_tests)
 
 pub odd_fold : (x y : Row) → odd x y ≡ fold false add2 256 (λ j. bit x j && bit y j)
 odd_fold x y = common_parity x y 256
@@ -45,19 +35,12 @@ parity_laws = record {
 -- the parity of the number of ones in a word of k bits
 word_parity : (k n : ℕ) → n < 2 ^ k → fold false add2 k (bit_at n) ≡ eqb (ones n % 2) 1
 unfolding fold
-word_parity zero n h = by_eqb (λ b. false ≡ b) (ones n % 2) 1 (λ q. absurd (omega (arith, ones-le 0 n h))) (λ _. refl)
+word_parity zero n h = let e = ones-le 0 n h in grind (arith, nat_tests)
 word_parity (suc k) n h =
     fold_front bits k (bit_at n)
     ∙ ap₂ add2 (bit_low n)
     (fold_same bits k (λ i. bit_at n (suc i)) (bit_at (n / 2)) (λ i _. bit_suc n i) ∙ word_parity k (n / 2) (omega (arith, pow-suc 2 k)))
-    ∙ both
-  where
-    both : add2 (eqb (n % 2) 1) (eqb (ones (n / 2) % 2) 1) ≡ eqb (ones n % 2) 1
-    both =
-        let step = ones_step n in
-        by_eqb (λ a. add2 a (eqb (ones (n / 2) % 2) 1) ≡ eqb (ones n % 2) 1) (n % 2) 1
-        (λ p. sym (odd_suc (ones (n / 2))) ∙ ap (λ x. eqb (x % 2) 1) (let q : 1 + ones (n / 2) ≡ ones n = omega arith in q))
-        (λ p. ap (λ x. eqb (x % 2) 1) (let q : ones (n / 2) ≡ ones n = omega arith in q))
+    ∙ (let step = ones_step n in grind (arith, nat_tests))
 
 word_xor : (a b : ℕ) → fold false add2 64 (bit_at (bit_xor a b)) ≡ add2 (fold false add2 64 (bit_at a)) (fold false add2 64 (bit_at b))
 word_xor a b = fold_same bits 64 (bit_at (bit_xor a b)) (λ j. add2 (bit_at a j) (bit_at b j)) (λ j _. bit_at_xor a b j) ∙ fold_two bits 64 (bit_at a) (bit_at b)
@@ -70,7 +53,7 @@ block x y q =
     (λ j l. bit_at_and (get_or x q 0) (get_or y q 0) j ∙ sym (ap₂ ◌&&◌ (bit_of_word x q j l) (bit_of_word y q j l)))
 
 reversed : (a b c d : Bool) → add2 (add2 (add2 a b) c) d ≡ add2 d (add2 c (add2 b a))
-reversed a b c d = bits.comm (add2 (add2 a b) c) d ∙ ap (add2 d) (bits.comm (add2 a b) c ∙ ap (add2 c) (bits.comm a b))
+reversed a b c d = grind arith
 
 -- the words that two rows have in common, added up to one
 abbrev pub in_common : Row → Row → ℕ

@@ -1,74 +1,13 @@
 -- The parts of a shape: one for each node that is its own label, and there is no other number of them. Assumes nothing.
-use Rattle.std.proofs.Common.{◌≡◌, ℕ, zero, suc, ◌+◌, ◌<◌, ◌≤◌, Bool, true, false, cond, eqb, List, [], ◌∷◌, length, get_or, sym, refl, ap, ◌∙◌, subst, arith, eq-eqb, eqb-true}
-use borrow.Author.Tests.{both_ways}
+use Rattle.std.proofs.Common.{◌≡◌, ℕ, suc, ◌-◌, ◌<◌, ◌≤◌, Bool, true, eqb, get_or, sym, ap, ◌∙◌, subst, arith, eq-eqb}
+use Rattle.std.proofs.lemmas.List.FromFn.{length-map-range_with_len}
+use Rattle.std.proofs.lemmas.Bool.Decides.{nat_tests}
 use Rattle.cycle_space.specs.Shapes.{Shape, Node, EndsAreNodes, OnePart, Parts, PartsAreCounted}
 use Rattle.cycle_space.specs.Labels.{label}
-use Rattle.cycle_space.proofs.Booleans.{by_eqb}
-use Rattle.cycle_space.specs.Sums.{fold, count}
-use Rattle.cycle_space.proofs.Counting.{Different, no_more, choose}
+use Rattle.cycle_space.specs.Sums.{count}
+use Rattle.cycle_space.proofs.Counting.{Different, no_more, choose, count_before, count_same_place, count_find, listed, listed_at}
 use Rattle.cycle_space.proofs.Runs.{run_then, run_back}
 use Rattle.cycle_space.proofs.Labels.{label_run, to_label, label_le, label_label, label_pos}
-
--- The nodes that pass a test, as a list
-
--- the nodes 1, .., n that pass the test, the highest first; node i + 1 is tested by x i
-collect : ℕ → (ℕ → Bool) → List ℕ
-collect zero x = []
-collect (suc n) x = cond (x n) (suc n ∷ collect n x) (collect n x)
-
-collect_length : (n : ℕ) (x : ℕ → Bool) → length (collect n x) ≡ count n x
-unfolding collect fold
-collect_length zero x = refl
-collect_length (suc n) x = go (x n) (collect_length n x)
-  where
-    go : (b : Bool) → length (collect n x) ≡ count n x → length (cond b (suc n ∷ collect n x) (collect n x)) ≡ cond b 1 0 + count n x
-    go true r = omega arith
-    go false r = omega arith
-
-abbrev Taken : ℕ → (ℕ → Bool) → ℕ → Type 0
-Taken n x v = (j : ℕ) × (j < n) × (v ≡ suc j) × (x j ≡ true)
-
-collect_in : (n : ℕ) (x : ℕ → Bool) (i : ℕ) → i < length (collect n x) → Taken n x (get_or (collect n x) i 0)
-unfolding collect
-collect_in zero x i l = absurd (omega arith)
-collect_in (suc n) x i l = go (x n) refl i l (collect_in n x)
-  where
-    go : (b : Bool) → x n ≡ b → (i : ℕ) → i < length (cond b (suc n ∷ collect n x) (collect n x)) → ((i : ℕ) → i < length (collect n x) → Taken n x (get_or (collect n x) i 0))
-        → Taken (suc n) x (get_or (cond b (suc n ∷ collect n x) (collect n x)) i 0)
-    go true e zero l ih = (n, omega arith, refl, e)
-    go true e (suc i) l ih = let r = ih i (omega arith) in (r.0, omega arith, r.2, r.3)
-    go false e i l ih = let r = ih i l in (r.0, omega arith, r.2, r.3)
-
-collect_apart : (n : ℕ) (x : ℕ → Bool) (i j : ℕ) → i < length (collect n x) → j < length (collect n x) → get_or (collect n x) i 0 ≡ get_or (collect n x) j 0 → i ≡ j
-unfolding collect
-collect_apart zero x i j li lj e = absurd (omega arith)
-collect_apart (suc n) x i j li lj e = go (x n) i j li lj e (collect_apart n x)
-  where
-    low : (i : ℕ) → i < length (collect n x) → get_or (collect n x) i 0 ≤ n
-    low i l = let r = collect_in n x i l in omega (arith, r.1, r.2)
-
-    go : (b : Bool) (i j : ℕ) → i < length (cond b (suc n ∷ collect n x) (collect n x)) → j < length (cond b (suc n ∷ collect n x) (collect n x))
-        → get_or (cond b (suc n ∷ collect n x) (collect n x)) i 0 ≡ get_or (cond b (suc n ∷ collect n x) (collect n x)) j 0
-        → ((i j : ℕ) → i < length (collect n x) → j < length (collect n x) → get_or (collect n x) i 0 ≡ get_or (collect n x) j 0 → i ≡ j) → i ≡ j
-    go true zero zero li lj e ih = refl
-    go true zero (suc j) li lj e ih = absurd (let r = low j (omega arith) in omega arith)
-    go true (suc i) zero li lj e ih = absurd (let r = low i (omega arith) in omega arith)
-    go true (suc i) (suc j) li lj e ih = ap suc (ih i j (omega arith) (omega arith) e)
-    go false i j li lj e ih = ih i j li lj e
-
-collect_all : (n : ℕ) (x : ℕ → Bool) (j : ℕ) → j < n → x j ≡ true → (i : ℕ) × (i < length (collect n x)) × (get_or (collect n x) i 0 ≡ suc j)
-unfolding collect
-collect_all zero x j l h = absurd (omega arith)
-collect_all (suc n) x j l h = go (x n) refl (λ l. collect_all n x j l h)
-  where
-    go : (b : Bool) → x n ≡ b → (j < n → (i : ℕ) × (i < length (collect n x)) × (get_or (collect n x) i 0 ≡ suc j))
-        → (i : ℕ) × (i < length (cond b (suc n ∷ collect n x) (collect n x))) × (get_or (cond b (suc n ∷ collect n x) (collect n x)) i 0 ≡ suc j)
-    go true e ih = by_eqb (λ _. (i : ℕ) × (i < suc (length (collect n x))) × (get_or (suc n ∷ collect n x) i 0 ≡ suc j)) j n
-        (λ q. (0, omega arith, ap suc (sym q)))
-        (λ ne. let r = ih (omega arith) in (suc r.0, omega (arith, r.1), r.2))
-    go false e ih = by_eqb (λ _. (i : ℕ) × (i < length (collect n x)) × (get_or (collect n x) i 0 ≡ suc j)) j n
-        (λ q. absurd (both_ways (x n) e (ap x (sym q) ∙ h)))
-        (λ ne. ih (omega arith))
 
 -- Parts
 
@@ -82,29 +21,42 @@ module _ (N : Shape) (g : EndsAreNodes N) where
   -- the nodes that are their own label are one of each part
   pub parts_by_labels : Parts N (count N.nodes (λ v. eqb (label N N.pipes (suc v)) (suc v)))
   parts_by_labels = record {
-    of_each = collect N.nodes own;
-    so_many = collect_length N.nodes own;
-    nodes = λ i l. let r = collect_in N.nodes own i (in_list i l) in (omega (arith, r.1, r.2), omega (arith, r.1, r.2));
-    apart = λ i j il jl p. collect_apart N.nodes own i j (in_list i il) (in_list j jl)
-        (sym (self i il) ∙ label_run N N.pipes (get_or (collect N.nodes own) i 0) (get_or (collect N.nodes own) j 0) p ∙ self j jl);
-    all = λ v h. each v h (top v) refl;
+    of_each = listed k node;
+    so_many = length-map-range_with_len node 0 k;
+    nodes = λ i l. let r = places.1 i l in subst (Node N) (sym (at i l)) (omega (arith, r.0), omega (arith, r.0));
+    apart = λ i j il jl p.
+        let same = label_run N N.pipes (get_or (listed k node) i 0) (get_or (listed k node) j 0) p in
+        let r = places.1 i il in
+        let s = places.1 j jl in
+        let e = at i il in
+        let f = at j jl in
+        grind (arith, nat_tests);
+    all = λ v h.
+        let j : ℕ = top v - 1 in
+        let low = label_le N N.pipes v in
+        let pos = label_pos N g N.pipes (omega arith) v h.0 in
+        let fix = label_label N N.pipes v in
+        let up : suc j ≡ top v = omega arith in
+        let hi = h.1 in
+        let in_own : own j ≡ true = eq-eqb (top (suc j)) (suc j) (ap top up ∙ fix ∙ sym up) in
+        let l = count_before own N.nodes j (omega arith) in_own in
+        let r = places.1 (count j own) l in
+        let one = count_same_place own (places.0 (count j own)) j r.1 in_own r.2 in
+        (count j own, l, subst (OnePart N v) (sym up ∙ ap suc (sym one) ∙ sym (at (count j own) l)) (to_label N N.pipes v));
   }
     where
-      in_list : (i : ℕ) → i < count N.nodes own → i < length (collect N.nodes own)
-      in_list i l = let e = collect_length N.nodes own in omega arith
+      k : ℕ
+      k = count N.nodes own
 
-      self : (i : ℕ) → i < count N.nodes own → top (get_or (collect N.nodes own) i 0) ≡ get_or (collect N.nodes own) i 0
-      self i l =
-          let r = collect_in N.nodes own i (in_list i l) in
-          ap top r.2 ∙ eqb-true (top (suc r.0)) (suc r.0) r.3 ∙ sym r.2
+      -- the node at the place i has i such nodes before it
+      places : (f : ℕ → ℕ) × ((i : ℕ) → i < k → (f i < N.nodes) × (own (f i) ≡ true) × (count (f i) own ≡ i))
+      places = choose k (λ i j. (j < N.nodes) × (own j ≡ true) × (count j own ≡ i)) (λ i l. let r = count_find own N.nodes i l in (r.0, (r.1, r.2, r.3)))
 
-      each : (v : ℕ) → Node N v → (t : ℕ) → top v ≡ t → (i : ℕ) × (i < count N.nodes own) × OnePart N v (get_or (collect N.nodes own) i 0)
-      each v h zero e = absurd (let p = label_pos N g N.pipes (omega arith) v h.0 in omega arith)
-      each v h (suc t) e =
-          let le = label_le N N.pipes v in
-          let hi = h.1 in
-          let r = collect_all N.nodes own t (omega arith) (eq-eqb (top (suc t)) (suc t) (ap top (sym e) ∙ label_label N N.pipes v ∙ e)) in
-          (r.0, (let z = collect_length N.nodes own in omega (arith, r.1)), subst (OnePart N v) (e ∙ sym r.2) (to_label N N.pipes v))
+      node : ℕ → ℕ
+      node i = suc (places.0 i)
+
+      at : (i : ℕ) → i < k → get_or (listed k node) i 0 ≡ node i
+      at i l = listed_at k node 0 i l
 
 parts_le : (N : Shape) (k l : ℕ) → Parts N k → Parts N l → k ≤ l
 parts_le N k l p q =

@@ -1,25 +1,18 @@
 -- Runs of pipes: to be joined by one is an equivalence. Assumes nothing.
-use Rattle.std.proofs.Common.{ℕ, ◌<◌, ◌≤◌, sym, refl, subst, inl, inr, arith}
+use Rattle.std.proofs.Common.{ℕ, ◌≤◌, sym, refl, subst, arith}
 use Rattle.cycle_space.specs.Shapes.{Shape, Crosses, Run, stay, cross, PartLaws}
 
-pub crosses_back : (N : Shape) (j s t : ℕ) → Crosses N j s t → Crosses N j t s
-crosses_back N j s t (inl p) = inr (p.1, p.0)
-crosses_back N j s t (inr p) = inl (p.1, p.0)
+crosses_back : (N : Shape) (j s t : ℕ) → Crosses N j s t → Crosses N j t s
+crosses_back N j s t c = grind arith
 
 module _ (N : Shape) (k : ℕ) where
-  pub run_self : (s : ℕ) → Run N k s s
-  run_self s = stay refl
-
-  pub run_by : (j s t : ℕ) → j < k → Crosses N j s t → Run N k s t
-  run_by j s t l c = cross j t l c (stay refl)
-
   pub run_then : (s u t : ℕ) → Run N k s u → Run N k u t → Run N k s t
   run_then s u t (stay e) q = subst (λ v. Run N k v t) (sym e) q
   run_then s u t (cross j v l c r) q = cross j v l c (run_then v u t r q)
 
   pub run_back : (s t : ℕ) → Run N k s t → Run N k t s
   run_back s t (stay e) = stay (sym e)
-  run_back s t (cross j u l c r) = run_then t u s (run_back u t r) (run_by j u s l (crosses_back N j s u c))
+  run_back s t (cross j u l c r) = run_then t u s (run_back u t r) (cross j s l (crosses_back N j s u c) (stay refl))
 
 -- with more pipes to cross
 pub run_up : (N : Shape) (k m : ℕ) → k ≤ m → (s t : ℕ) → Run N k s t → Run N m s t
@@ -28,7 +21,7 @@ run_up N k m h s t (cross j u l c r) = cross j u (omega arith) c (run_up N k m h
 
 pub part_laws : PartLaws
 part_laws = record {
-  itself = λ N v. run_self N N.pipes v;
+  itself = λ N v. stay refl;
   back = λ N s t. run_back N N.pipes s t;
   through = λ N s u t. run_then N N.pipes s u t;
 }

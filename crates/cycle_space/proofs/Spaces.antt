@@ -1,17 +1,18 @@
 -- The space of the closed sets of a shape, as functions, and the rows that stand for them. Assumes nothing.
-use Rattle.std.proofs.Common.{◌≡◌, ℕ, zero, suc, ◌%◌, ◌<◌, ◌≤◌, Bool, true, false, cond, ◌&&◌, eqb, List, [], ◌∷◌, length, get_or, sym, refl, ap, ◌∙◌, ap₂, arith, eqb-true}
+use Rattle.std.proofs.Common.{◌≡◌, ℕ, zero, suc, ◌<◌, ◌≤◌, Bool, true, false, cond, ◌&&◌, eqb, List, [], ◌∷◌, length, get_or, sym, refl, ap, ◌∙◌, ap₂, arith}
+use Rattle.std.proofs.lemmas.List.FromFn.{length-map-range_with_len}
+use Rattle.std.proofs.lemmas.Bool.Decides.{nat_tests}
 use mathlib.Core.Path.{fun_ext}
-use native.Mathlib.Decide.{dec_lt}
-use borrow.Author.Tests.{both_ways}
 use Rattle.std.proofs.lemmas.List.{ext_get_or}
 use Rattle.cycle_space.specs.Sums.{fold}
 use Rattle.cycle_space.specs.Rows.{Row, bit, holds, FourWords, empty, row_of, add2, sum, odd}
 use Rattle.cycle_space.specs.Shapes.{Shape}
-use Rattle.cycle_space.specs.Bases.{OfPipes, touching, Closed, chosen, Basis}
-use Rattle.cycle_space.proofs.Booleans.{by_eqb, not_so, add2_assoc, add2_comm, add2_same, and_add2}
-use Rattle.cycle_space.proofs.Folds.{Comm, bits, fold_same, fold_two, fold_front, fold_lone}
-use Rattle.cycle_space.proofs.Bits.{row_of_words, row_bit, row_of_bits, bit_past, empty_bit, empty_row, sum_bit, sum_row}
+use Rattle.cycle_space.specs.Bases.{Closed, chosen, Basis}
+use Rattle.cycle_space.proofs.Booleans.{add2_assoc, add2_comm, add2_same}
+use Rattle.cycle_space.proofs.Folds.{Comm, bits, fold_same, fold_front, fold_lone}
+use Rattle.cycle_space.proofs.Bits.{known_by_bits, row_of_words, row_bits, empty_bit, empty_row, sum_bit, sum_row}
 use Rattle.cycle_space.proofs.Parities.{odd_fold, parity_laws}
+use Rattle.cycle_space.proofs.Counting.{listed, listed_at}
 use Rattle.cycle_space.proofs.Linear.{picked, Space, Spans}
 use Rattle.cycle_space.proofs.Trails.{Even, bd_add, bd_none, bd_same, touching_parity}
 
@@ -42,22 +43,12 @@ odd_sets s x = fold false add2 256 (λ j. s j && x j)
 pub odd_bits : (x s : Row) → odd x s ≡ odd_sets (bit s) (bit x)
 odd_bits x s = parity_laws.symmetric x s ∙ odd_fold s x
 
-pub odd_adds : (s x y : ℕ → Bool) → odd_sets s (xors x y) ≡ add2 (odd_sets s x) (odd_sets s y)
-odd_adds s x y =
-    fold_same bits 256 (λ j. s j && add2 (x j) (y j)) (λ j. add2 (s j && x j) (s j && y j)) (λ j _. and_add2 (s j) (x j) (y j))
-    ∙ fold_two bits 256 (λ j. s j && x j) (λ j. s j && y j)
-
 -- with one coordinate in common at most, that one decides
 pub odd_one : (s x : ℕ → Bool) (i : ℕ) → i < 256 → ((j : ℕ) → s j ≡ true → x j ≡ true → j ≡ i) → odd_sets s x ≡ (s i && x i)
 odd_one s x i l h =
     fold_same bits 256 (λ j. s j && x j) (λ j. cond (eqb j i) (s i && x i) false)
-    (λ j _. by_eqb (λ t. (s j && x j) ≡ cond t (s i && x i) false) j i (λ q. ap (λ k. s k && x k) q) (λ ne. apart j ne (s j) refl (x j) refl))
+    (λ j _. let one = h j in grind (arith, nat_tests))
     ∙ fold_lone bits 256 i (s i && x i) l
-  where
-    apart : (j : ℕ) → (j ≡ i → ⊥) → (a : Bool) → s j ≡ a → (b : Bool) → x j ≡ b → (a && b) ≡ false
-    apart j ne true p true q = absurd (ne (h j p q))
-    apart j ne true p false q = refl
-    apart j ne false p b q = refl
 
 -- The closed sets
 
@@ -77,57 +68,34 @@ space N = record {
 -- the pipes of a closed row are a closed set
 pub of_row : (N : Shape) (r : Row) → Closed N r → Cycle N (bit r)
 of_row N r c = record {
-  closed = λ v. sym (touching_parity N r v N.pipes) ∙ not_so (eqb (touching N r v N.pipes % 2) 1) (λ e.
-      let p = eqb-true (touching N r v N.pipes % 2) 1 e in let q = c.even v in omega arith);
+  closed = λ v. let p = touching_parity N r v N.pipes in let q = c.even v in grind (arith, nat_tests);
   bounded = λ j l. c.of_pipes.others (suc j) (omega arith);
 }
 
 module _ (N : Shape) (few : N.pipes ≤ 256) (x : ℕ → Bool) (c : Cycle N x) where
   pub bits_back : bit (row_of x) ≡ x
-  bits_back = fun_ext (λ j. elim (dec_lt j 256) [
-    | yes l ↦ row_bit x j l
-    | no l ↦ bit_past (row_of x) (row_of_words x).four j (omega arith) ∙ sym (c.bounded j (omega arith))
-  ])
+  bits_back = fun_ext (row_bits x (λ j l. c.bounded j (omega arith)))
 
   -- the row of a closed set is closed
   pub to_row : Closed N (row_of x)
   to_row = record {
     of_pipes = record { words = row_of_words x; others = others };
-    even = λ v. low (touching N (row_of x) v N.pipes)
-        (touching_parity N (row_of x) v N.pipes ∙ bd_same N (bit (row_of x)) x (λ i. ap (λ f. f i) bits_back) v ∙ c.closed v);
+    even = λ v.
+        let p = touching_parity N (row_of x) v N.pipes in
+        let q = bd_same N (bit (row_of x)) x (λ i. ap (λ f. f i) bits_back) v in
+        let r = c.closed v in
+        grind (arith, nat_tests);
   }
     where
       others : (j : ℕ) → N.pipes < j → holds (row_of x) j ≡ false
       others zero l = refl
       others (suc j) l = ap (λ f. f j) bits_back ∙ c.bounded j (omega arith)
 
-      low : (n : ℕ) → eqb (n % 2) 1 ≡ false → n % 2 ≡ 0
-      low n = by_eqb (λ b. b ≡ false → n % 2 ≡ 0) (n % 2) 1 (λ _ e. absurd (both_ways true e refl)) (λ ne _. omega arith)
-
--- a row is the row of its bits, and is known by them
-pub row_back : (m : ℕ) (r : Row) → OfPipes m r → row_of (bit r) ≡ r
-row_back m r w = row_of_bits r w.words
-
+-- a row is known by its bits
 from_bits : (x y : Row) → FourWords x → FourWords y → bit x ≡ bit y → x ≡ y
-from_bits x y p q e = sym (row_of_bits x p) ∙ ap row_of e ∙ row_of_bits y q
+from_bits x y p q e = known_by_bits x y p q (λ j _. ap (λ f. f j) e)
 
 -- Lists of rows and selections
-
--- the list of s 0, .., s (n - 1)
-pub listed : {A : Type 0} → ℕ → (ℕ → A) → List A
-listed zero s = []
-listed (suc n) s = s 0 ∷ listed n (λ i. s (suc i))
-
-pub listed_length : {A : Type 0} (n : ℕ) (s : ℕ → A) → length (listed n s) ≡ n
-unfolding listed
-listed_length zero s = refl
-listed_length (suc n) s = ap suc (listed_length n (λ i. s (suc i)))
-
-pub listed_at : {A : Type 0} (n : ℕ) (s : ℕ → A) (d : A) (i : ℕ) → i < n → get_or (listed n s) i d ≡ s i
-unfolding listed
-listed_at zero s d i l = absurd (omega arith)
-listed_at (suc n) s d zero l = refl
-listed_at (suc n) s d (suc i) l = listed_at n (λ j. s (suc j)) d i (omega arith)
 
 chosen_row : (rows : List Row) (bs : List Bool) → ((i : ℕ) → i < length rows → FourWords (get_or rows i empty)) → FourWords (chosen rows bs)
 chosen_row [] bs h = empty_row
@@ -157,7 +125,7 @@ module _ (N : Shape) (few : N.pipes ≤ 256) (rows : List Row) where
   chosen_listed : ((i : ℕ) → i < length rows → FourWords (get_or rows i empty)) → (s : ℕ → Bool)
       → bit (chosen rows (listed (length rows) s)) ≡ picked none xors (length rows) (λ i. bit (get_or rows i empty)) s
   chosen_listed h s =
-      chosen_bits rows (listed (length rows) s) h (listed_length (length rows) s)
+      chosen_bits rows (listed (length rows) s) h (length-map-range_with_len s 0 (length rows))
       ∙ fold_same sets (length rows) (λ i. cond (get_or (listed (length rows) s) i false) (bit (get_or rows i empty)) none) (λ i. cond (s i) (bit (get_or rows i empty)) none)
       (λ i l. ap (λ b. cond b (bit (get_or rows i empty)) none) (listed_at (length rows) s false i l))
 
@@ -168,7 +136,7 @@ module _ (N : Shape) (few : N.pipes ≤ 256) (rows : List Row) where
         let r = b.spans (row_of x) (to_row N few x c) in
         ((λ i. get_or r.0 i false), sym (chosen_bits rows r.0 fours r.1) ∙ ap bit r.2 ∙ bits_back N few x c);
     unique = λ s t e i l.
-        let same = b.once (listed (length rows) s) (listed (length rows) t) (listed_length (length rows) s) (listed_length (length rows) t)
+        let same = b.once (listed (length rows) s) (listed (length rows) t) (length-map-range_with_len s 0 (length rows)) (length-map-range_with_len t 0 (length rows))
         (from_bits (chosen rows (listed (length rows) s)) (chosen rows (listed (length rows) t)) (chosen_row rows (listed (length rows) s) fours) (chosen_row rows (listed (length rows) t) fours)
         (chosen_listed fours s ∙ e ∙ sym (chosen_listed fours t))) in
         sym (listed_at (length rows) s false i l) ∙ ap (λ xs. get_or xs i false) same ∙ listed_at (length rows) t false i l;
@@ -184,7 +152,7 @@ module _ (N : Shape) (few : N.pipes ≤ 256) (rows : List Row) where
         let r = b.spans (bit x) (of_row N x c) in
         let bs : List Bool = listed (length rows) r.0 in (
           bs,
-          listed_length (length rows) r.0,
+          length-map-range_with_len r.0 0 (length rows),
           from_bits (chosen rows bs) x (chosen_row rows bs fours) c.of_pipes.words (chosen_listed fours r.0 ∙ r.1),
         );
     once = λ bs cs p q e.

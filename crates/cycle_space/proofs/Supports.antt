@@ -1,5 +1,7 @@
 -- Rings with their supports: the supports separate the closed sets, and one that has no ring yet misses a closed set. Assumes nothing.
 use Rattle.std.proofs.Common.{◌≡◌, ℕ, zero, suc, ◌<◌, Bool, true, false, ◌&&◌, sym, refl, ap, ◌∙◌, subst, ap₂, arith}
+use Rattle.cycle_space.proofs.Bits.{row_of_bits}
+use Rattle.cycle_space.proofs.Folds.{dot_add}
 use mathlib.Core.Path.{fun_ext}
 use native.Mathlib.Decide.{dec_lt}
 use borrow.Author.Tests.{both_ways}
@@ -9,16 +11,12 @@ use Rattle.cycle_space.specs.Labels.{closes}
 use Rattle.cycle_space.specs.Bases.{Closed}
 use Rattle.cycle_space.specs.Supports.{rank, before, Sound}
 use Rattle.cycle_space.proofs.Booleans.{not_so}
-use Rattle.cycle_space.proofs.Counting.{count_up, count_at, count_same_place, count_find}
+use Rattle.cycle_space.proofs.Counting.{count_before, count_same_place, count_find}
 use Rattle.cycle_space.proofs.Labels.{closing_decided}
 use Rattle.cycle_space.proofs.Linear.{Spans, Rings}
 use Rattle.cycle_space.proofs.Triangular.{missed, ring_basis}
 use Rattle.cycle_space.proofs.Closings.{separation, fundamental}
-use Rattle.cycle_space.proofs.Spaces.{none, xors, Cycle, odd_sets, odd_bits, odd_adds, odd_one, space, of_row, to_row, bits_back, row_back}
-
--- the supports are numbered below the rank
-pub below_rank : (N : Shape) (j : ℕ) → j < N.pipes → closes N j ≡ true → before N j < rank N
-below_rank N j l c = let one = count_at (closes N) j c in let up = count_up (closes N) (suc j) N.pipes l in omega arith
+use Rattle.cycle_space.proofs.Spaces.{none, xors, Cycle, odd_sets, odd_bits, odd_one, space, of_row, to_row, bits_back}
 
 module _ (N : Shape) (k : ℕ) (ring support : ℕ → Row) (s : Sound N k ring support) where
   in_net : (x : ℕ → Bool) → Cycle N x → (j : ℕ) → x j ≡ true → j < N.pipes
@@ -32,12 +30,12 @@ module _ (N : Shape) (k : ℕ) (ring support : ℕ → Row) (s : Sound N k ring 
       sym (ap (λ t. t && x j) (s.own j l cj))
       ∙ sym (odd_one (bit (support (before N j))) x j (let few = s.few_pipes in omega arith)
       (λ i si xi.
-      let low = s.lower (before N j) i (below_rank N j l cj) si in
-      elim (dec_lt (before N i) (before N j)) [
-        | yes less ↦ absurd (both_ways (x i) (none_closing x c h b i (omega arith) (in_net x c i xi) low.0) xi)
-        | no more ↦ count_same_place (closes N) i j low.0 cj (omega (arith, low.1))
-      ]))
-      ∙ h (before N j) (below_rank N j l cj)
+      let low = s.lower (before N j) i (count_before (closes N) N.pipes j l cj) si in
+      let less = none_closing x c h b i in
+      let in_x = in_net x c i xi in
+      let one = count_same_place (closes N) i j low.0 cj in
+      grind arith))
+      ∙ h (before N j) (count_before (closes N) N.pipes j l cj)
 
   -- the empty set alone is even against all supports
   pub separated : (x : ℕ → Bool) → Cycle N x → ((i : ℕ) → i < rank N → odd_sets (bit (support i)) x ≡ false) → x ≡ none
@@ -65,7 +63,7 @@ module _ (N : Shape) (k : ℕ) (ring support : ℕ → Row) (s : Sound N k ring 
   pub not_yet : k < rank N → Spans none xors (Cycle N) k (λ i. bit (ring i)) → ⊥
   not_yet lt b =
       let o = some_odd lt in
-      missed (space N) (odd_sets (bit (support k))) (odd_adds (bit (support k))) k (λ i. bit (ring i))
+      missed (space N) (odd_sets (bit (support k))) (dot_add 256 (bit (support k))) k (λ i. bit (ring i))
       (λ i l. sym (odd_bits (ring i) (support k)) ∙ s.later_even i k l l lt) o.0 o.1 o.2 b
 
   -- rings that are least against their supports
@@ -77,7 +75,7 @@ module _ (N : Shape) (k : ℕ) (ring support : ℕ → Row) (s : Sound N k ring 
     own = λ i l. sym (odd_bits (ring i) (support i)) ∙ s.own_odd i l;
     earlier = λ i j ji l. sym (odd_bits (ring j) (support i)) ∙ s.later_even j i (omega arith) ji (let n = s.not_over in omega arith);
     least = λ i l x c o.
-        ap (λ r. leq (w r) (w (row_of x))) (row_back N.pipes (ring i) (s.closed i l).of_pipes)
+        ap (λ r. leq (w r) (w (row_of x))) (row_of_bits (ring i) (s.closed i l).of_pipes.words)
         ∙ least i l (row_of x) (to_row N s.few_pipes x c)
         (odd_bits (row_of x) (support i) ∙ ap (odd_sets (bit (support i))) (bits_back N s.few_pipes x c) ∙ o);
   }
@@ -85,7 +83,7 @@ module _ (N : Shape) (k : ℕ) (ring support : ℕ → Row) (s : Sound N k ring 
   -- where no ring is missing, the rings are a basis
   pub full : k ≡ rank N → Spans none xors (Cycle N) k (λ i. bit (ring i))
   full e =
-      ring_basis (space N) (λ i. odd_adds (bit (support i))) (sound_rings {V = Bool} (λ _ _. true) (λ _. true) (λ _ _ _ _ _. refl))
+      ring_basis (space N) (λ i. dot_add 256 (bit (support i))) (sound_rings {V = Bool} (λ _ _. true) (λ _. true) (λ _ _ _ _ _. refl))
       (λ x c h. separated x c (λ i l. h i (omega arith)))
 
   -- the same, as a row

@@ -1,9 +1,10 @@
 -- Rings whose supports separate the space are a basis of it, and rings that a support misses are none. Assumes nothing.
-use Rattle.std.proofs.Common.{◌≡◌, ℕ, zero, suc, ◌<◌, ◌≤◌, Bool, true, false, cond, sym, ap, ◌∙◌, subst, ap₂, arith}
+use Rattle.std.proofs.Common.{◌≡◌, ℕ, zero, suc, ◌<◌, ◌≤◌, Bool, true, false, cond, sym, ap, ◌∙◌, ap₂, arith}
+use Rattle.std.proofs.lemmas.Bool.{cond_both}
 use borrow.Author.Tests.{both_ways}
 use Rattle.cycle_space.specs.Sums.{fold}
 use Rattle.cycle_space.specs.Rows.{add2}
-use Rattle.cycle_space.proofs.Booleans.{by_eqb, add2_same, add2_false, add2_equal}
+use Rattle.cycle_space.proofs.Booleans.{by_eqb}
 use Rattle.cycle_space.proofs.Folds.{fold_same}
 use Rattle.cycle_space.proofs.Linear.{picked, Space, Spans, Rings}
 use Rattle.cycle_space.proofs.Bases.{put, picked_add, even, at_none}
@@ -23,16 +24,13 @@ module _ {M : Type 0} {e : M} {op : M → M → M} {In : M → Type 0} (sp : Spa
   module _ {V : Type 0} {leq : V → V → Bool} {w : M → V} {S : ℕ → M → Bool} (adds : (i : ℕ) (x y : M) → S i (op x y) ≡ add2 (S i x) (S i y))
       {d : ℕ} {C : ℕ → M} (rings : Rings In leq w S d C) where
     own_part : (k : ℕ) → k < d → (b : Bool) → S k (cond b (C k) e) ≡ b
-    own_part k l true = rings.own k l
-    own_part k l false = at_none sp (S k) (adds k)
+    own_part k l b = let own = rings.own k l in let none = at_none sp (S k) (adds k) in grind arith
 
     no_part : (i k : ℕ) → k < i → i < d → (b : Bool) → S i (cond b (C k) e) ≡ false
-    no_part i k l m true = rings.earlier i k l m
-    no_part i k l m false = at_none sp (S i) (adds i)
+    no_part i k l m b = let even = rings.earlier i k l m in let none = at_none sp (S i) (adds i) in grind arith
 
     in_part : (k : ℕ) → k < d → (b : Bool) → In (cond b (C k) e)
-    in_part k l true = rings.inside k l
-    in_part k l false = sp.has
+    in_part k l b = cond_both b (C k) e In (λ _. rings.inside k l) (λ _. sp.has)
 
     -- none is picked where nothing is the sum
     none_picked : (k : ℕ) → k ≤ d → (v : ℕ → Bool) → picked e op k C v ≡ e → (i : ℕ) → i < k → v i ≡ false
@@ -43,12 +41,23 @@ module _ {M : Type 0} {e : M} {op : M → M → M} {In : M → Type 0} (sp : Spa
       where
         here : v k ≡ false
         here =
-            sym (add2_false (v k))
-            ∙ ap₂ add2 (sym (own_part k l (v k))) (sym (even sp (S k) (adds k) k C v (λ j jl. rings.earlier k j jl l)))
-            ∙ sym (adds k (cond (v k) (C k) e) (picked e op k C v)) ∙ ap (S k) h ∙ at_none sp (S k) (adds k)
+            let own = own_part k l (v k) in
+            let others = even sp (S k) (adds k) k C v (λ j jl. rings.earlier k j jl l) in
+            let sum = adds k (cond (v k) (C k) e) (picked e op k C v) in
+            let none = at_none sp (S k) (adds k) in
+            grind arith
 
         rest : picked e op k C v ≡ e
-        rest = sym (sp.group.left (picked e op k C v)) ∙ ap (λ b. op (cond b (C k) e) (picked e op k C v)) (sym here) ∙ h
+        rest = let now = here in let left = sp.group.left (picked e op k C v) in grind arith
+
+    -- with the ring k added where x is odd against its support
+    cleared : (k : ℕ) → k < d → (x : M) → ((i : ℕ) → suc k ≤ i → i < d → S i x ≡ false) → (i : ℕ) → k ≤ i → i < d → S i (op (cond (S k x) (C k) e) x) ≡ false
+    cleared k l x h i kl il =
+        let sum = adds i (cond (S k x) (C k) e) x in
+        let own = own_part k l (S k x) in
+        let no = λ (m : k < i). no_part i k m il (S k x) in
+        let even = h i in
+        grind arith
 
     module _ (separated : (x : M) → In x → ((i : ℕ) → i < d → S i x ≡ false) → x ≡ e) where
       -- what is even against the supports from k on is the sum of some of the first k rings
@@ -57,11 +66,7 @@ module _ {M : Type 0} {e : M} {op : M → M → M} {In : M → Type 0} (sp : Spa
       reach zero l x x_in h = ((λ _. false), sym (separated x x_in (λ i il. h i (omega arith) il)))
       reach (suc k) l x x_in h =
           let c : M = cond (S k x) (C k) e in
-          let r = reach k (omega arith) (op c x) (sp.sums c x (in_part k l (S k x)) x_in)
-          (λ i kl il. adds i c x
-          ∙ by_eqb (λ _. add2 (S i c) (S i x) ≡ false) i k
-          (λ q. subst (λ a. add2 (S a c) (S a x) ≡ false) (sym q) (ap (λ b. add2 b (S k x)) (own_part k l (S k x)) ∙ add2_same (S k x)))
-          (λ ne. ap₂ add2 (no_part i k (omega arith) il (S k x)) (h i (omega arith) il))) in
+          let r = reach k (omega arith) (op c x) (sp.sums c x (in_part k l (S k x)) x_in) (cleared k l x h) in
           let s = r.0 in (
             put s k (S k x),
             ap₂ (λ b y. op (cond b (C k) e) y) (put_at s k (S k x))
@@ -73,7 +78,8 @@ module _ {M : Type 0} {e : M} {op : M → M → M} {In : M → Type 0} (sp : Spa
       ring_basis = record {
         members = rings.inside;
         spans = λ x x_in. reach d (omega arith) x x_in (λ i dl il. absurd (omega arith));
-        unique = λ s t eq i il. add2_equal (s i) (t i)
-            (none_picked d (omega arith) (λ j. add2 (s j) (t j))
-            (picked_add sp d C s t ∙ ap (λ x. op x (picked e op d C t)) eq ∙ sp.twice (picked e op d C t)) i il);
+        unique = λ s t eq i il.
+            let same = none_picked d (omega arith) (λ j. add2 (s j) (t j))
+            (picked_add sp d C s t ∙ ap (λ x. op x (picked e op d C t)) eq ∙ sp.twice (picked e op d C t)) i il in
+            grind arith;
       }

@@ -1,5 +1,5 @@
 -- The weight of a set of pipes, as a sum over the places. Assumes nothing.
-use Rattle.std.proofs.Common.{◌≡◌, ℕ, suc, ◌+◌, Bool, true, false, cond, List, [], ◌∷◌, length, get_or, sym, refl, ap, ◌∙◌, ap₂, arith}
+use Rattle.std.proofs.Common.{◌≡◌, ℕ, suc, ◌+◌, Bool, cond, List, [], ◌∷◌, length, get_or, sym, refl, ap, ◌∙◌, ap₂, arith}
 use mathlib.Core.Path.{fun_ext}
 use Rattle.cycle_space.specs.Sums.{fold}
 use Rattle.cycle_space.specs.Rows.{Row, bit}
@@ -16,7 +16,7 @@ module _ {M : Type 0} {zero' : M} {join : M → M → M} (g : Comm zero' join) w
   unfolding fold
   weight_from_fold r s [] = refl
   weight_from_fold r s (w ∷ ws) =
-      split (bit r s)
+      (let split : cond (bit r s) (join w rest) rest ≡ join (cond (bit r s) w zero') rest = grind (arith, g.left) in split)
       ∙ ap₂ join (ap (λ i. cond (bit r i) w zero') (let q : s ≡ s + 0 = omega arith in q))
       (weight_from_fold r (suc s) ws
       ∙ fold_same g (length ws) (λ j. cond (bit r (suc s + j)) (get_or ws j zero') zero') (λ j. cond (bit r (s + suc j)) (get_or ws j zero') zero')
@@ -25,10 +25,6 @@ module _ {M : Type 0} {zero' : M} {join : M → M → M} (g : Comm zero' join) w
     where
       rest : M
       rest = weight_from zero' join r (suc (suc s)) ws
-
-      split : (b : Bool) → cond b (join w rest) rest ≡ join (cond b w zero') rest
-      split true = refl
-      split false = sym (g.left rest)
 
   pub weight_heft : (n : Moment M) (r : Row) → weight zero' join n r ≡ heft zero' join (weights n) (bit r)
   weight_heft n r = weight_from_fold r 0 (weights n) ∙ ap (heft zero' join (weights n)) (fun_ext (λ j. ap (bit r) (omega arith)))

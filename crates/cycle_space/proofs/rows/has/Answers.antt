@@ -1,7 +1,7 @@
 -- Where the pipe has a spot, the code reads bit `pipe - 1`; else no row has such a pipe.
-use Rattle.std.proofs.Common.{◌≡◌, eqb, length, sym, ap, ◌∙◌, inl, inr, rules}
+use Rattle.std.proofs.Common.{◌≡◌, eqb, length, sym, ap, ◌∙◌, arith, rules}
 use lib.Bits.{and_mask}
-use Rattle.cycle_space.specs.Rows.{bit, holds}
+use Rattle.cycle_space.specs.Rows.{bit}
 use Rattle.cycle_space.proofs.Bits.{holds_bit, holds_past}
 use Rattle.cycle_space.proofs.rows.has.Goals as goal
 
@@ -14,7 +14,6 @@ returns-in-Some c =
 pub returns-in-None : goal.returns-in-None
 returns-in-None c =
     let four : length c.args.row ≡ 4 = search rules in
-    elim c.in-None.ensures [
-      | inl q ↦ sym (ap (holds c.args.row) q)
-      | inr q ↦ sym (holds_past c.args.row four c.args.pipe q)
-    ]
+    let past = holds_past c.args.row four c.args.pipe in
+    let none = c.in-None.ensures in
+    grind arith
