@@ -1,5 +1,5 @@
 // Next: one ring after the other.
-ghost use Rattle.std.specs.Prelude.{◌≡◌, true, ◌↔◌, length};
+ghost use Rattle.std.specs.Prelude.{◌≡◌, ◌<◌, true, false, ◌↔◌, length};
 ghost use Rattle.cycle_space.specs.Shapes.{Due};
 ghost use Rattle.cycle_space.specs.Moments.{shape, weights as weights_of};
 ghost use Rattle.search.specs.Sought.{plan};
@@ -27,7 +27,8 @@ impl<M: Measure> Net<'_, M> {
 
     // Whether all rings that are due are found.
     fn is_complete(&self) -> bool
-        ensures { (result ≡ true) ↔ Due (shape (view self.now)) (length (rings self.now)) }
+        ensures due { (result ≡ true) ↔ Due (shape (view self.now)) (length (rings self.now)) }
+        ensures room { result ≡ false → self.now.tables.found < 256 }
     {
         self.found() == self.due()
     }
@@ -43,7 +44,7 @@ impl<M: Measure> Net<'_, M> {
         let found = self.tables.found;
         let mut supports = self.supports();
         let Some(ring) = lightest_odd(&self.layout(), supports.of[found].words, scratch)? else {
-            return Err(Refusal::Complete); // never: as long as a ring is due, there is such a set
+            unreachable!() // as long as a ring is due, there is such a set
         };
         supports.turn(found, ring);
         self.tables.rows[found].words = ring;
