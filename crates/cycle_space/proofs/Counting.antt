@@ -69,15 +69,10 @@ count_same_place x j l hj hl e = let less = count_before x l j in let more = cou
 pub count_find : (x : ℕ → Bool) (m i : ℕ) → i < count m x → (j : ℕ) × (j < m) × (x j ≡ true) × (count j x ≡ i)
 unfolding fold
 count_find x zero i h = absurd (omega arith)
-count_find x (suc m) i h = go (x m) refl h (count_find x m i)
-  where
-    go : (b : Bool) → x m ≡ b → i < cond b 1 0 + count m x → (i < count m x → (j : ℕ) × (j < m) × (x j ≡ true) × (count j x ≡ i))
-        → (j : ℕ) × (j < suc m) × (x j ≡ true) × (count j x ≡ i)
-    go true e l ih = elim (dec_lt i (count m x)) [
-      | yes lt ↦ let r = ih lt in (r.0, omega arith, r.2, r.3)
-      | no ge ↦ (m, omega arith, e, omega arith)
-    ]
-    go false e l ih = let r = ih (omega arith) in (r.0, omega arith, r.2, r.3)
+count_find x (suc m) i h = elim (dec_lt i (count m x)) [
+  | yes lt ↦ let r = count_find x m i lt in (r.0, omega arith, r.2, r.3)
+  | no ge ↦ (m, omega arith, grind arith, grind arith)
+]
 
 -- Different numbers
 

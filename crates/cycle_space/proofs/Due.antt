@@ -4,7 +4,7 @@ use Rattle.std.proofs.lemmas.Bool.{cond_both}
 use Rattle.std.proofs.lemmas.Bool.Decides.{nat_tests}
 use borrow.Author.Tests.{eqb-false}
 use Rattle.cycle_space.specs.Shapes.{Shape, EndsAreNodes, Parts, Due, Closing, Exactly, DueIsClosing}
-use Rattle.cycle_space.specs.Labels.{relabel, label, closes}
+use Rattle.cycle_space.specs.Labels.{label, closes}
 use Rattle.cycle_space.specs.Supports.{rank}
 use Rattle.cycle_space.proofs.Booleans.{eqb_same}
 use Rattle.cycle_space.specs.Sums.{fold, count}
@@ -16,13 +16,6 @@ use Rattle.cycle_space.proofs.Parts.{parts_by_labels, parts_unique}
 abbrev root : Shape → ℕ → ℕ → Bool
 root N k v = eqb (label N k v) v
 
--- A closing pipe changes no label, and any other leaves one root less
-
--- the higher of two labels is no longer one, and else nothing changes
-root_next : (N : Shape) (k p q : ℕ) → label N k p ≡ p → label N k q ≡ q → (p ≡ q → ⊥)
-    → (v : ℕ) → eqb (relabel p q (label N k v)) v ≡ flip (root N k) (max p q) v
-root_next N k p q lp lq ne v = grind (arith, nat_tests)
-
 -- over the first k pipes, with 0 as one more root
 due_after : (N : Shape) → EndsAreNodes N → (k : ℕ) → k ≤ N.pipes → count k (closes N) + suc N.nodes ≡ k + count (suc N.nodes) (root N k)
 unfolding fold
@@ -32,11 +25,14 @@ due_after N g (suc k) l =
     let p : ℕ = label N k (N.first k) in
     let q : ℕ = label N k (N.second k) in
     cond_both (closes N k) 1 0 (λ c. c + count k (closes N) + suc N.nodes ≡ suc k + count (suc N.nodes) (root N (suc k)))
+    -- a closing pipe changes no label
     (λ e. let s = count_same (suc N.nodes) (root N (suc k)) (root N k) (λ v _. grind (arith, nat_tests)) in omega arith)
+    -- any other leaves one root less: the higher of two labels is no longer one
     (λ e.
+    let ne = eqb-false p q e in
     let lp = label_label N k (N.first k) in
     let lq = label_label N k (N.second k) in
-    let s = count_same (suc N.nodes) (root N (suc k)) (flip (root N k) (max p q)) (λ v _. root_next N k p q lp lq (eqb-false p q e) v) in
+    let s = count_same (suc N.nodes) (root N (suc k)) (flip (root N k) (max p q)) (λ v _. grind (arith, nat_tests)) in
     let p_le = label_le N k (N.first k) in
     let q_le = label_le N k (N.second k) in
     let ends = g k l in

@@ -19,9 +19,6 @@ use Rattle.cycle_space.proofs.Closings.{separation, fundamental}
 use Rattle.cycle_space.proofs.Spaces.{none, xors, Cycle, odd_sets, odd_bits, odd_one, space, of_row, to_row, bits_back}
 
 module _ (N : Shape) (k : ℕ) (ring support : ℕ → Row) (s : Sound N k ring support) where
-  in_net : (x : ℕ → Bool) → Cycle N x → (j : ℕ) → x j ≡ true → j < N.pipes
-  in_net x c j e = elim (dec_lt j N.pipes) [ yes l ↦ l | no l ↦ absurd (both_ways (x j) (c.bounded j (omega arith)) e) ]
-
   -- no closing pipe is in a closed set that is even against all supports
   none_closing : (x : ℕ → Bool) → Cycle N x → ((i : ℕ) → i < rank N → odd_sets (bit (support i)) x ≡ false)
       → (b j : ℕ) → before N j < b → j < N.pipes → closes N j ≡ true → x j ≡ false
@@ -32,7 +29,7 @@ module _ (N : Shape) (k : ℕ) (ring support : ℕ → Row) (s : Sound N k ring 
       (λ i si xi.
       let low = s.lower (before N j) i (count_before (closes N) N.pipes j l cj) si in
       let less = none_closing x c h b i in
-      let in_x = in_net x c i xi in
+      let out = c.bounded i in
       let one = count_same_place (closes N) i j low.0 cj in
       grind arith))
       ∙ h (before N j) (count_before (closes N) N.pipes j l cj)
