@@ -53,13 +53,10 @@ unfolding fold
 count_up x j zero h = grind arith
 count_up x j (suc l) h = let r = count_up x j l in by_eqb (λ _. count j x ≤ count (suc l) x) j (suc l) (λ q. grind arith) (λ ne. grind arith)
 
-pub count_at : (x : ℕ → Bool) (j : ℕ) → x j ≡ true → count (suc j) x ≡ suc (count j x)
-unfolding fold
-count_at x j h = grind arith
-
 -- one that passes has fewer before it
 pub count_before : (x : ℕ → Bool) (n j : ℕ) → j < n → x j ≡ true → count j x < count n x
-count_before x n j l h = let one = count_at x j h in let up = count_up x (suc j) n l in omega arith
+unfolding fold
+count_before x n j l h = let up = count_up x (suc j) n l in grind arith
 
 -- two that pass, with equally many before them, are one
 pub count_same_place : (x : ℕ → Bool) (j l : ℕ) → x j ≡ true → x l ≡ true → count j x ≡ count l x → j ≡ l
