@@ -1,9 +1,9 @@
 -- The bits of words and of rows: a row is known by its pipes, and the laws of the sum. Assumes nothing.
 use Rattle.std.proofs.Common.{◌≡◌, ℕ, zero, suc, ◌+◌, ◌-◌, ◌*◌, ◌/◌, ◌%◌, ◌^◌, ◌<◌, ◌≤◌, Bool, false, cond, ◌&&◌, eqb, [], ◌∷◌, length, get_or, sym, refl, ap, ◌∙◌, subst, ap₂, pow-suc, arith}
-use Rattle.std.proofs.lemmas.Nat.Bits.{bit_at_lowest, bit_at-suc, bit_at-zero, bit_at_and as and_at, bit_at_xor as xor_at, same_from_bits_below}
-use Rattle.std.proofs.lemmas.Bool.Decides.{nat_tests}
 use native.Mathlib.Decide.{dec_lt}
 use lib.Bits.{bit_and, bit_xor, xor_lt}
+use Rattle.std.proofs.lemmas.Nat.Bits.{bit_at_lowest, bit_at-suc, bit_at-zero, bit_at_and as and_at, bit_at_xor as xor_at, same_from_bits_below}
+use Rattle.std.proofs.lemmas.Bool.Decides.{nat_tests}
 use Rattle.std.proofs.lemmas.List.{get_or_past, ext_get_or}
 use Rattle.cycle_space.specs.Rows.{Row, bit, holds, FourWords, empty, word_of, row_of, add2, sum, KnownByPipes, SumLaws}
 use Rattle.cycle_space.proofs.Booleans.{add2_same, add2_comm, add2_assoc}

@@ -1,10 +1,10 @@
 -- How many of the numbers below n pass a test, and choices for the numbers below k. Assumes nothing.
 use Rattle.std.proofs.Common.{◌≡◌, ℕ, zero, suc, ◌+◌, ◌<◌, ◌≤◌, Bool, true, false, cond, eqb, ◌↔◌, List, map, get_or, sym, refl, ap, ◌∙◌, subst, arith}
+use native.Mathlib.Decide.{dec_lt}
+use borrow.Author.Tests.{both_ways}
 use Rattle.std.specs.List.{range_with_len}
 use Rattle.std.proofs.lemmas.List.FromFn.{get_or-map-range_with_len}
 use Rattle.std.proofs.lemmas.Bool.{cond_both}
-use native.Mathlib.Decide.{dec_lt}
-use borrow.Author.Tests.{both_ways}
 use Rattle.std.proofs.lemmas.Bool.Decides.{nat_tests}
 use Rattle.cycle_space.specs.Sums.{fold, count}
 use Rattle.cycle_space.specs.Rows.{add2}

@@ -1,15 +1,15 @@
 -- The due number: there is one, and it is the number of closing pipes. Assumes nothing.
 use Rattle.std.proofs.Common.{◌≡◌, ℕ, zero, suc, ◌+◌, ◌≤◌, max, Bool, eqb, sym, subst, arith}
+use borrow.Author.Tests.{eqb-false}
 use Rattle.std.proofs.lemmas.Bool.{cond_both}
 use Rattle.std.proofs.lemmas.Bool.Decides.{nat_tests}
-use borrow.Author.Tests.{eqb-false}
 use Rattle.cycle_space.specs.Shapes.{Shape, EndsAreNodes, Parts, Due, Closing, Exactly, DueIsClosing}
 use Rattle.cycle_space.specs.Labels.{label, closes}
 use Rattle.cycle_space.specs.Supports.{rank}
-use Rattle.cycle_space.proofs.Booleans.{eqb_same}
 use Rattle.cycle_space.specs.Sums.{fold, count}
-use Rattle.cycle_space.proofs.Counting.{flip, count_same, count_le, count_all, count_out, count_front, exactly_count, count_exactly}
+use Rattle.cycle_space.proofs.Booleans.{eqb_same}
 use Rattle.cycle_space.proofs.Labels.{label_le, label_label, closing_decided}
+use Rattle.cycle_space.proofs.Counting.{flip, count_same, count_le, count_all, count_out, count_front, exactly_count, count_exactly}
 use Rattle.cycle_space.proofs.Parts.{parts_by_labels, parts_unique}
 
 -- the node v is its own label after the first k pipes

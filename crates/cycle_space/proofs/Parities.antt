@@ -1,8 +1,8 @@
 -- The parity of two rows: the sum over GF(2) of the products of their bits, by words, and its laws. Assumes nothing.
 use Rattle.std.proofs.Common.{◌≡◌, ℕ, zero, suc, ◌+◌, ◌*◌, ◌/◌, ◌%◌, ◌^◌, ◌<◌, Bool, false, ◌&&◌, eqb, get_or, sym, refl, ap, ◌∙◌, ap₂, pow-suc, arith}
-use Rattle.std.proofs.lemmas.Bool.Decides.{nat_tests}
 use lib.Bits.{bit_and, bit_xor}
 use lib.Count.{ones, ones_step, ones-le}
+use Rattle.std.proofs.lemmas.Bool.Decides.{nat_tests}
 use Rattle.cycle_space.specs.Sums.{fold}
 use Rattle.cycle_space.specs.Rows.{Row, bit, empty, add2, sum, common, odd, ParityLaws}
 use Rattle.cycle_space.proofs.Booleans.{and_comm, add2_and}

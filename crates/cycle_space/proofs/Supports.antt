@@ -1,7 +1,5 @@
 -- Rings with their supports: the supports separate the closed sets, and one that has no ring yet misses a closed set. Assumes nothing.
 use Rattle.std.proofs.Common.{◌≡◌, ℕ, zero, suc, ◌<◌, Bool, true, false, ◌&&◌, sym, refl, ap, ◌∙◌, subst, ap₂, arith}
-use Rattle.cycle_space.proofs.Bits.{row_of_bits}
-use Rattle.cycle_space.proofs.Folds.{dot_add}
 use mathlib.Core.Path.{fun_ext}
 use native.Mathlib.Decide.{dec_lt}
 use borrow.Author.Tests.{both_ways}
@@ -11,8 +9,10 @@ use Rattle.cycle_space.specs.Labels.{closes}
 use Rattle.cycle_space.specs.Bases.{Closed}
 use Rattle.cycle_space.specs.Supports.{rank, before, Sound}
 use Rattle.cycle_space.proofs.Booleans.{not_so}
-use Rattle.cycle_space.proofs.Counting.{count_before, count_same_place, count_find}
+use Rattle.cycle_space.proofs.Folds.{dot_add}
+use Rattle.cycle_space.proofs.Bits.{row_of_bits}
 use Rattle.cycle_space.proofs.Labels.{closing_decided}
+use Rattle.cycle_space.proofs.Counting.{count_before, count_same_place, count_find}
 use Rattle.cycle_space.proofs.Linear.{Spans, Rings}
 use Rattle.cycle_space.proofs.Triangular.{missed, ring_basis}
 use Rattle.cycle_space.proofs.Closings.{separation, fundamental}

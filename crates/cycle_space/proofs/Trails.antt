@@ -1,8 +1,8 @@
 -- Sets of pipes with their boundaries, runs as lists of pipes, trails in a set, and rings that are odd against a set. Assumes nothing.
 use Rattle.std.proofs.Common.{◌≡◌, ℕ, zero, suc, ◌%◌, ◌<◌, Bool, true, false, not, ◌&&◌, eqb, List, [], ◌∷◌, sym, refl, ap, ◌∙◌, subst, ap₂, inl, inr, arith, ne_eqb, eqb-true}
+use borrow.Author.Tests.{both_ways}
 use Rattle.std.proofs.lemmas.Bool.{and_parts}
 use Rattle.std.proofs.lemmas.Bool.Decides.{nat_tests}
-use borrow.Author.Tests.{both_ways}
 use Rattle.cycle_space.specs.Sums.{fold, count}
 use Rattle.cycle_space.specs.Rows.{Row, bit, add2}
 use Rattle.cycle_space.specs.Shapes.{Shape, Crosses, Run, stay, cross}
