@@ -1,9 +1,9 @@
 -- The bits of words and of rows: a row is known by its pipes, and the laws of the sum. Assumes nothing.
 use Rattle.std.proofs.Common.{◌≡◌, ℕ, zero, suc, ◌+◌, ◌-◌, ◌*◌, ◌/◌, ◌%◌, ◌^◌, ◌<◌, ◌≤◌, Bool, false, cond, ◌&&◌, eqb, [], ◌∷◌, length, get_or, sym, refl, ap, ◌∙◌, subst, ap₂, pow-suc, arith}
-use Rattle.std.proofs.lemmas.Nat.Bits.{bit_at_lowest, bit_at-suc, bit_at-zero, bit_at_and as and_at, bit_at_xor as xor_at, same_from_bits_below}
-use Rattle.std.proofs.lemmas.Bool.Decides.{nat_tests}
 use native.Mathlib.Decide.{dec_lt}
 use lib.Bits.{bit_and, bit_xor, xor_lt}
+use Rattle.std.proofs.lemmas.Nat.Bits.{bit_at_lowest, bit_at-suc, bit_at-zero, bit_at_and as and_at, bit_at_xor as xor_at, same_from_bits_below}
+use Rattle.std.proofs.lemmas.Bool.Decides.{nat_tests}
 use Rattle.std.proofs.lemmas.List.{get_or_past, ext_get_or}
 use Rattle.cycle_space.specs.Rows.{Row, bit, holds, FourWords, empty, word_of, row_of, add2, sum, KnownByPipes, SumLaws}
 use Rattle.cycle_space.proofs.Booleans.{add2_same, add2_comm, add2_assoc}
@@ -12,7 +12,7 @@ use Rattle.cycle_space.proofs.Booleans.{add2_same, add2_comm, add2_assoc}
 abbrev pub bit_at : ℕ → ℕ → Bool
 bit_at x j = eqb (x / 2 ^ j % 2) 1
 
-pub bit_zero : (k : ℕ) → bit_at 0 k ≡ false
+bit_zero : (k : ℕ) → bit_at 0 k ≡ false
 bit_zero k = ap (λ n. eqb n 1) (bit_at-zero k)
 
 pub bit_at_xor : (x y j : ℕ) → bit_at (bit_xor x y) j ≡ add2 (bit_at x j) (bit_at y j)
@@ -38,7 +38,7 @@ unfolding bit
 bit_of_word r q j l =
     ap₂ (λ a b. bit_at (get_or r a 0) b) (let e : (64 * q + j) / 64 ≡ q = omega arith in e) (let e : (64 * q + j) % 64 ≡ j = omega arith in e)
 
-pub bit_past : (r : Row) → length r ≡ 4 → (j : ℕ) → 256 ≤ j → bit r j ≡ false
+bit_past : (r : Row) → length r ≡ 4 → (j : ℕ) → 256 ≤ j → bit r j ≡ false
 unfolding bit
 bit_past r l j h = ap (λ n. bit_at n (j % 64)) (get_or_past r (j / 64) 0 (omega arith)) ∙ bit_zero (j % 64)
 

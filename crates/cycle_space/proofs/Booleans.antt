@@ -1,5 +1,5 @@
 -- Cases on two numbers by a test, and truth values with their addition and product over GF(2). Assumes nothing.
-use Rattle.std.proofs.Common.{◌≡◌, ℕ, Bool, true, false, ◌&&◌, eqb, ◌⊎◌, sym, subst, refl, inl, inr, arith, eq-eqb}
+use Rattle.std.proofs.Common.{◌≡◌, ℕ, Bool, true, false, ◌&&◌, eqb, sym, subst, refl, inl, inr, arith, eq-eqb}
 use Rattle.std.proofs.lemmas.Bool.Decides.{eqb_tells}
 use Rattle.cycle_space.specs.Rows.{add2}
 
@@ -35,7 +35,3 @@ add2_and a b c = grind arith
 -- the middle one goes
 pub add2_cut : (a b c : Bool) → add2 (add2 a b) (add2 b c) ≡ add2 a c
 add2_cut a b c = grind arith
-
--- one of the two is so
-pub either : (a b : Bool) → add2 a b ≡ true → (a ≡ true) ⊎ (b ≡ true)
-either a b h = grind arith

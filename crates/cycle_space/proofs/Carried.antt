@@ -1,6 +1,5 @@
 -- Rings carried over a pairing of the pipes of two nets, and equal counts. Assumes nothing.
 use Rattle.std.proofs.Common.{◌≡◌, ℕ, zero, suc, ◌<◌, ◌≤◌, Bool, true, cond, ◌&&◌, List, map, length, get_or, sym, refl, ap, ◌∙◌, subst, ap₂, arith}
-use Rattle.cycle_space.proofs.Bits.{row_of_bits}
 use mathlib.Core.Path.{fun_ext}
 use Rattle.std.proofs.lemmas.List.{length-map, get_or-map}
 use Rattle.cycle_space.specs.Sums.{fold, count}
@@ -10,6 +9,7 @@ use Rattle.cycle_space.specs.Bases.{Closed, Basis}
 use Rattle.cycle_space.specs.Supports.{Sound}
 use Rattle.cycle_space.specs.Rivals.{SamePipes, how_many}
 use Rattle.cycle_space.proofs.Folds.{Comm, bits, numbers, fold_same, dot_add}
+use Rattle.cycle_space.proofs.Bits.{row_of_bits}
 use Rattle.cycle_space.proofs.Counting.{Different, no_more}
 use Rattle.cycle_space.proofs.Linear.{picked, Space, Spans, Rings, Exchanged, Order, Joins}
 use Rattle.cycle_space.proofs.Exchanges.{exchange}

@@ -1,12 +1,12 @@
 -- Closing pipes: a closed set without one is empty, and each has a closed set of its own. Assumes nothing.
 use Rattle.std.proofs.Common.{◌≡◌, ℕ, zero, suc, ◌+◌, ◌<◌, ◌≤◌, Bool, true, false, eqb, sym, refl, ap, ◌∙◌, subst, ap₂, inl, inr, arith, eqb-true}
+use borrow.Author.Tests.{both_ways}
 use Rattle.std.proofs.lemmas.Bool.{cases_Bool}
 use Rattle.std.proofs.lemmas.Bool.Decides.{nat_tests}
-use borrow.Author.Tests.{both_ways}
 use Rattle.cycle_space.specs.Rows.{add2}
 use Rattle.cycle_space.specs.Shapes.{Shape, Run, stay, cross, Closing}
 use Rattle.cycle_space.specs.Labels.{closes}
-use Rattle.cycle_space.proofs.Booleans.{by_eqb, not_so, eqb_same, add2_same, add2_cut, either}
+use Rattle.cycle_space.proofs.Booleans.{by_eqb, not_so, eqb_same, add2_same}
 use Rattle.cycle_space.proofs.Labels.{closing_decided}
 use Rattle.cycle_space.proofs.Counting.{flip}
 use Rattle.cycle_space.proofs.Trails.{ends, boundary, Even, Inside, bd_add, bd_one, bd_none, bd_flip, ends_same, ends_cross, every_map, flip_in, trail, opened, walk_run}
@@ -46,8 +46,8 @@ tree_up N k s t x = (x.0, λ j e. let r = x.1 j e in (omega arith, r.1), x.2)
 tree_then : (N : Shape) (k s u t : ℕ) → Tree N k s u → Tree N k u t → Tree N k s t
 tree_then N k s u t x y = (
   λ i. add2 (x.0 i) (y.0 i),
-  λ j e. elim (either (x.0 j) (y.0 j) e) [ inl p ↦ x.1 j p | inr q ↦ y.1 j q ],
-  λ w. bd_add N x.0 y.0 w ∙ ap₂ add2 (x.2 w) (y.2 w) ∙ add2_cut (eqb s w) (eqb u w) (eqb t w),
+  λ j e. let p = x.1 j in let q = y.1 j in grind arith,
+  λ w. let both = bd_add N x.0 y.0 w in let p = x.2 w in let q = y.2 w in grind arith,
 )
 
 tree_run : (N : Shape) (k : ℕ) → ((j : ℕ) → j < k → Tree N k (N.first j) (N.second j)) → (s t : ℕ) → Run N k s t → Tree N k s t

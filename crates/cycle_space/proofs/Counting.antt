@@ -1,10 +1,10 @@
 -- How many of the numbers below n pass a test, and choices for the numbers below k. Assumes nothing.
 use Rattle.std.proofs.Common.{◌≡◌, ℕ, zero, suc, ◌+◌, ◌<◌, ◌≤◌, Bool, true, false, cond, eqb, ◌↔◌, List, map, get_or, sym, refl, ap, ◌∙◌, subst, arith}
+use native.Mathlib.Decide.{dec_lt}
+use borrow.Author.Tests.{both_ways}
 use Rattle.std.specs.List.{range_with_len}
 use Rattle.std.proofs.lemmas.List.FromFn.{get_or-map-range_with_len}
 use Rattle.std.proofs.lemmas.Bool.{cond_both}
-use native.Mathlib.Decide.{dec_lt}
-use borrow.Author.Tests.{both_ways}
 use Rattle.std.proofs.lemmas.Bool.Decides.{nat_tests}
 use Rattle.cycle_space.specs.Sums.{fold, count}
 use Rattle.cycle_space.specs.Rows.{add2}
@@ -53,13 +53,10 @@ unfolding fold
 count_up x j zero h = grind arith
 count_up x j (suc l) h = let r = count_up x j l in by_eqb (λ _. count j x ≤ count (suc l) x) j (suc l) (λ q. grind arith) (λ ne. grind arith)
 
-pub count_at : (x : ℕ → Bool) (j : ℕ) → x j ≡ true → count (suc j) x ≡ suc (count j x)
-unfolding fold
-count_at x j h = grind arith
-
 -- one that passes has fewer before it
 pub count_before : (x : ℕ → Bool) (n j : ℕ) → j < n → x j ≡ true → count j x < count n x
-count_before x n j l h = let one = count_at x j h in let up = count_up x (suc j) n l in omega arith
+unfolding fold
+count_before x n j l h = let up = count_up x (suc j) n l in grind arith
 
 -- two that pass, with equally many before them, are one
 pub count_same_place : (x : ℕ → Bool) (j l : ℕ) → x j ≡ true → x l ≡ true → count j x ≡ count l x → j ≡ l
@@ -69,15 +66,10 @@ count_same_place x j l hj hl e = let less = count_before x l j in let more = cou
 pub count_find : (x : ℕ → Bool) (m i : ℕ) → i < count m x → (j : ℕ) × (j < m) × (x j ≡ true) × (count j x ≡ i)
 unfolding fold
 count_find x zero i h = absurd (omega arith)
-count_find x (suc m) i h = go (x m) refl h (count_find x m i)
-  where
-    go : (b : Bool) → x m ≡ b → i < cond b 1 0 + count m x → (i < count m x → (j : ℕ) × (j < m) × (x j ≡ true) × (count j x ≡ i))
-        → (j : ℕ) × (j < suc m) × (x j ≡ true) × (count j x ≡ i)
-    go true e l ih = elim (dec_lt i (count m x)) [
-      | yes lt ↦ let r = ih lt in (r.0, omega arith, r.2, r.3)
-      | no ge ↦ (m, omega arith, e, omega arith)
-    ]
-    go false e l ih = let r = ih (omega arith) in (r.0, omega arith, r.2, r.3)
+count_find x (suc m) i h = elim (dec_lt i (count m x)) [
+  | yes lt ↦ let r = count_find x m i lt in (r.0, omega arith, r.2, r.3)
+  | no ge ↦ (m, omega arith, grind arith, grind arith)
+]
 
 -- Different numbers
 

@@ -1,7 +1,7 @@
 -- Sums over different places, the size of bases, and what is counted and joined over them. Assumes nothing.
 use Rattle.std.proofs.Common.{◌≡◌, ℕ, zero, suc, ◌<◌, ◌≤◌, Bool, true, false, cond, ◌&&◌, eqb, sym, refl, ap, ◌∙◌, subst, ap₂, inl, inr, arith}
-use Rattle.std.proofs.lemmas.Bool.Decides.{nat_tests}
 use borrow.Author.Tests.{both_ways}
+use Rattle.std.proofs.lemmas.Bool.Decides.{nat_tests}
 use Rattle.cycle_space.specs.Sums.{fold, count}
 use Rattle.cycle_space.specs.Rows.{add2}
 use Rattle.cycle_space.proofs.Booleans.{eqb_same}

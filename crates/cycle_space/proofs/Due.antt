@@ -1,27 +1,20 @@
 -- The due number: there is one, and it is the number of closing pipes. Assumes nothing.
 use Rattle.std.proofs.Common.{◌≡◌, ℕ, zero, suc, ◌+◌, ◌≤◌, max, Bool, eqb, sym, subst, arith}
+use borrow.Author.Tests.{eqb-false}
 use Rattle.std.proofs.lemmas.Bool.{cond_both}
 use Rattle.std.proofs.lemmas.Bool.Decides.{nat_tests}
-use borrow.Author.Tests.{eqb-false}
 use Rattle.cycle_space.specs.Shapes.{Shape, EndsAreNodes, Parts, Due, Closing, Exactly, DueIsClosing}
-use Rattle.cycle_space.specs.Labels.{relabel, label, closes}
+use Rattle.cycle_space.specs.Labels.{label, closes}
 use Rattle.cycle_space.specs.Supports.{rank}
-use Rattle.cycle_space.proofs.Booleans.{eqb_same}
 use Rattle.cycle_space.specs.Sums.{fold, count}
-use Rattle.cycle_space.proofs.Counting.{flip, count_same, count_le, count_all, count_out, count_front, exactly_count, count_exactly}
+use Rattle.cycle_space.proofs.Booleans.{eqb_same}
 use Rattle.cycle_space.proofs.Labels.{label_le, label_label, closing_decided}
+use Rattle.cycle_space.proofs.Counting.{flip, count_same, count_le, count_all, count_out, count_front, exactly_count, count_exactly}
 use Rattle.cycle_space.proofs.Parts.{parts_by_labels, parts_unique}
 
 -- the node v is its own label after the first k pipes
 abbrev root : Shape → ℕ → ℕ → Bool
 root N k v = eqb (label N k v) v
-
--- A closing pipe changes no label, and any other leaves one root less
-
--- the higher of two labels is no longer one, and else nothing changes
-root_next : (N : Shape) (k p q : ℕ) → label N k p ≡ p → label N k q ≡ q → (p ≡ q → ⊥)
-    → (v : ℕ) → eqb (relabel p q (label N k v)) v ≡ flip (root N k) (max p q) v
-root_next N k p q lp lq ne v = grind (arith, nat_tests)
 
 -- over the first k pipes, with 0 as one more root
 due_after : (N : Shape) → EndsAreNodes N → (k : ℕ) → k ≤ N.pipes → count k (closes N) + suc N.nodes ≡ k + count (suc N.nodes) (root N k)
@@ -32,18 +25,21 @@ due_after N g (suc k) l =
     let p : ℕ = label N k (N.first k) in
     let q : ℕ = label N k (N.second k) in
     cond_both (closes N k) 1 0 (λ c. c + count k (closes N) + suc N.nodes ≡ suc k + count (suc N.nodes) (root N (suc k)))
+    -- a closing pipe changes no label
     (λ e. let s = count_same (suc N.nodes) (root N (suc k)) (root N k) (λ v _. grind (arith, nat_tests)) in omega arith)
+    -- any other leaves one root less: the higher of two labels is no longer one
     (λ e.
+    let ne = eqb-false p q e in
     let lp = label_label N k (N.first k) in
     let lq = label_label N k (N.second k) in
-    let s = count_same (suc N.nodes) (root N (suc k)) (flip (root N k) (max p q)) (λ v _. root_next N k p q lp lq (eqb-false p q e) v) in
+    let s = count_same (suc N.nodes) (root N (suc k)) (flip (root N k) (max p q)) (λ v _. grind (arith, nat_tests)) in
     let p_le = label_le N k (N.first k) in
     let q_le = label_le N k (N.second k) in
     let ends = g k l in
     let o = count_out (suc N.nodes) (root N k) (max p q) (omega (arith, ends.0.1, ends.1.1)) (grind (arith, nat_tests)) in
     omega arith)
 
-pub due_by_labels : (N : Shape) → EndsAreNodes N
+due_by_labels : (N : Shape) → EndsAreNodes N
     → rank N + N.nodes ≡ N.pipes + count N.nodes (λ v. eqb (label N N.pipes (suc v)) (suc v))
 due_by_labels N g =
     let c = due_after N g N.pipes (omega arith) in

@@ -1,8 +1,8 @@
 -- The exchange: rings take the places of members of a basis that weigh no less. Assumes nothing.
 use Rattle.std.proofs.Common.{◌≡◌, ℕ, zero, suc, ◌<◌, ◌≤◌, Bool, true, ◌⊎◌, sym, refl, ap, ◌∙◌, subst, ap₂, inl, inr, arith}
-use Rattle.std.proofs.lemmas.Bool.Decides.{nat_tests}
 use mathlib.Core.Path.{fun_ext}
 use borrow.Author.Tests.{both_ways}
+use Rattle.std.proofs.lemmas.Bool.Decides.{nat_tests}
 use Rattle.cycle_space.specs.Rows.{add2}
 use Rattle.cycle_space.proofs.Linear.{Space, Spans, Rings, replaced, Exchanged}
 use Rattle.cycle_space.proofs.Bases.{put, swapped, found}

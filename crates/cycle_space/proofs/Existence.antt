@@ -1,19 +1,19 @@
 -- Sound rings exist, as many as there are closing pipes, and are a basis, so what is proved of rings is proved of something; and every basis has as many members. Assumes nothing.
 use Rattle.std.proofs.Common.{◌≡◌, ℕ, zero, suc, ◌≤◌, Bool, true, cond, ◌&&◌, ltb, List, length, get_or, sym, refl, ◌∙◌, subst, arith}
-use Rattle.cycle_space.proofs.Folds.{dot_add}
+use native.Mathlib.Decide.{dec_lt}
 use Rattle.std.proofs.lemmas.List.FromFn.{length-map-range_with_len}
 use Rattle.std.proofs.lemmas.Bool.Decides.{nat_tests}
-use native.Mathlib.Decide.{dec_lt}
 use Rattle.cycle_space.specs.Rows.{Row, bit, empty, sum, odd}
 use Rattle.cycle_space.specs.Shapes.{Shape, Due}
 use Rattle.cycle_space.specs.Bases.{Basis}
 use Rattle.cycle_space.specs.Supports.{rank, alone, Sound, Extended, BasesExist, ClosingPipesTell, BasesHaveDueSize}
+use Rattle.cycle_space.proofs.Folds.{dot_add}
+use Rattle.cycle_space.proofs.Bits.{known_by_bits, empty_bit, empty_row}
 use Rattle.cycle_space.proofs.Counting.{listed, listed_at}
+use Rattle.cycle_space.proofs.Due.{due_rank}
 use Rattle.cycle_space.proofs.Bases.{put}
 use Rattle.cycle_space.proofs.Exchanges.{kept, put_at, exchange}
 use Rattle.cycle_space.proofs.Counts.{same_size}
-use Rattle.cycle_space.proofs.Due.{due_rank}
-use Rattle.cycle_space.proofs.Bits.{known_by_bits, empty_bit, empty_row}
 use Rattle.cycle_space.proofs.Closings.{separation}
 use Rattle.cycle_space.proofs.Spaces.{space, of_row, to_spans}
 use Rattle.cycle_space.proofs.Supports.{due_ring, sound_rings}
@@ -48,7 +48,7 @@ reach N few (suc k) l =
           (put ring k c) (λ i il. kept ring k c i il) (put_at ring k c) (turn k support c) (turn_extends k support c),
     )
 
-pub sound_bases_exist : (N : Shape) → N.pipes ≤ 256
+sound_bases_exist : (N : Shape) → N.pipes ≤ 256
     → (rows : List Row) × (support : ℕ → Row) × (length rows ≡ rank N) × Sound N (length rows) (λ i. get_or rows i empty) support × Basis N rows
 sound_bases_exist N few =
     let r = reach N few (rank N) (omega arith) in

@@ -1,8 +1,8 @@
 -- How rings and supports stay sound: before the first ring, with another number of nodes, with one more ring. Assumes nothing.
 use Rattle.std.proofs.Common.{◌≡◌, ℕ, zero, suc, ◌%◌, ◌<◌, ◌≤◌, Bool, true, false, ◌&&◌, eqb, ltb, ◌⊎◌, length, sym, refl, ap, ◌∙◌, subst, ap₂, inl, inr, arith}
+use native.Mathlib.Decide.{dec_lt}
 use Rattle.std.proofs.lemmas.Bool.{cases_Bool}
 use Rattle.std.proofs.lemmas.Bool.Decides.{nat_tests}
-use native.Mathlib.Decide.{dec_lt}
 use Rattle.cycle_space.specs.Sums.{count}
 use Rattle.cycle_space.specs.Rows.{Row, bit, holds, empty, FourWords, row_of, add2, sum, odd}
 use Rattle.cycle_space.specs.Shapes.{Shape, Closing, Exactly}
@@ -128,9 +128,9 @@ module _ (N : Shape) (k : ℕ) (ring support : ℕ → Row) (s : Sound N k ring 
   of_pipes' i l = elim (dec_lt k i) [
     | yes m ↦ elim (cases_Bool (odd c (support i))) [
       | inl o ↦ subst (OfPipes N.pipes) (sym (x.odd_turn i m o)) (record {
-          words = sum_row (support i) (support k) (four i l) (four k kr);
-          others = λ j h. sum_holds (support i) (support k) (long i l) j ∙ ap₂ add2 ((s.of_pipes i l).others j h) ((s.of_pipes k kr).others j h);
-        })
+        words = sum_row (support i) (support k) (four i l) (four k kr);
+        others = λ j h. sum_holds (support i) (support k) (long i l) j ∙ ap₂ add2 ((s.of_pipes i l).others j h) ((s.of_pipes k kr).others j h);
+      })
       | inr o ↦ subst (OfPipes N.pipes) (sym (x.even_stay i m o)) (s.of_pipes i l)
     ]
     | no m ↦ subst (OfPipes N.pipes) (sym (x.earlier_stay i (omega arith))) (s.of_pipes i l)

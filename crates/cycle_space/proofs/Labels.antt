@@ -1,5 +1,5 @@
 -- Labels: after the first k pipes two nodes have one label exactly where a run of those pipes joins them. Assumes nothing.
-use Rattle.std.proofs.Common.{◌≡◌, ℕ, zero, suc, ◌<◌, ◌≤◌, min, max, true, cond, ◌↔◌, sym, refl, ap, ◌∙◌, subst, inl, inr, arith, eq-eqb, eqb-true}
+use Rattle.std.proofs.Common.{◌≡◌, ℕ, zero, suc, ◌<◌, ◌≤◌, min, max, true, cond, ◌↔◌, sym, refl, ap, subst, inl, inr, arith, eq-eqb, eqb-true}
 use Rattle.std.proofs.lemmas.Bool.{cases_lt}
 use Rattle.std.proofs.lemmas.Bool.Decides.{nat_tests}
 use Rattle.cycle_space.specs.Shapes.{Shape, EndsAreNodes, Crosses, Run, stay, cross, Closing}
@@ -13,12 +13,9 @@ label_pipe : (N : Shape) (k j : ℕ) → j < k → label N k (N.first j) ≡ lab
 label_pipe N zero j l = absurd (omega arith)
 label_pipe N (suc k) j l = let r = label_pipe N k j in grind (arith, nat_tests)
 
-label_cross : (N : Shape) (k j s t : ℕ) → j < k → Crosses N j s t → label N k s ≡ label N k t
-label_cross N k j s t l c = let r = label_pipe N k j l in grind arith
-
 pub label_run : (N : Shape) (k s t : ℕ) → Run N k s t → label N k s ≡ label N k t
 label_run N k s t (stay e) = ap (label N k) e
-label_run N k s t (cross j u l c r) = label_cross N k j s u l c ∙ label_run N k u t r
+label_run N k s t (cross j u l c r) = let p = label_pipe N k j l in let q = label_run N k u t r in grind arith
 
 -- A run leads from a node to its label
 
@@ -52,7 +49,7 @@ label_le N (suc k) v = let h = label_le N k v in grind (arith, nat_tests)
 pub label_label : (N : Shape) (k v : ℕ) → label N k (label N k v) ≡ label N k v
 label_label N k v = sym (label_run N k v (label N k v) (to_label N k v))
 
-pub same_label : (N : Shape) (k u v : ℕ) → label N k u ≡ label N k v → Run N k u v
+same_label : (N : Shape) (k u v : ℕ) → label N k u ≡ label N k v → Run N k u v
 same_label N k u v e =
     run_then N k u (label N k u) v (to_label N k u) (subst (λ l. Run N k l v) (sym e) (run_back N k v (label N k v) (to_label N k v)))
 

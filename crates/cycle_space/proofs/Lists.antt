@@ -1,9 +1,8 @@
 -- Rings and rivals as lists of rows: full lists are bases, the exchange, the joined weight, the counts. Assumes nothing.
 use Rattle.std.proofs.Common.{◌≡◌, ℕ, zero, suc, ◌+◌, ◌<◌, Bool, true, cond, List, [], ◌∷◌, map, length, get_or, sym, refl, ap, ◌∙◌, subst, ap₂, inl, inr, arith}
-use Rattle.cycle_space.proofs.Bits.{row_of_bits}
+use mathlib.Core.Path.{fun_ext}
 use Rattle.std.proofs.lemmas.List.FromFn.{length-map-range_with_len}
 use Rattle.std.proofs.lemmas.Bool.Decides.{nat_tests}
-use mathlib.Core.Path.{fun_ext}
 use Rattle.std.proofs.lemmas.List.{length-set, get_or-set_same, get_or-set_other}
 use Rattle.cycle_space.specs.Sums.{fold, count}
 use Rattle.cycle_space.specs.Rows.{Row, bit, row_of, empty, odd}
@@ -13,6 +12,7 @@ use Rattle.cycle_space.specs.Bases.{Closed, Basis}
 use Rattle.cycle_space.specs.Supports.{rank, Sound}
 use Rattle.cycle_space.specs.Rivals.{joined_weight, exchanged, Exchanges, how_many}
 use Rattle.cycle_space.proofs.Folds.{numbers, fold_front, dot_add}
+use Rattle.cycle_space.proofs.Bits.{row_of_bits}
 use Rattle.cycle_space.proofs.Counting.{Different, listed, listed_at}
 use Rattle.cycle_space.proofs.Linear.{Spans, Rings, replaced, Exchanged, Joins}
 use Rattle.cycle_space.proofs.Exchanges.{origin, exchange}
@@ -88,7 +88,7 @@ module _ {M : Type 0} {zero' : M} {join : M → M → M} {within : M → M → B
       abbrev Swap : (ℕ → ℕ) → Type 0
       Swap f = Exchanged none xors (Cycle (shape n)) within (λ x. weight zero' join n (row_of x)) (length ours) (λ i. bit (get_or ours i empty)) (length rival) (λ i. bit (get_or rival i empty)) f
 
-      pub swap : (f : ℕ → ℕ) × Swap f
+      swap : (f : ℕ → ℕ) × Swap f
       swap = exchange (space (shape n)) (λ i. dot_add 256 (bit (support i))) our_rings (to_spans (shape n) s.few_pipes rival b)
 
       weighs : (r : Row) → Closed (shape n) r → weight zero' join n (row_of (bit r)) ≡ weight zero' join n r

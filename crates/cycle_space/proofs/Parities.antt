@@ -1,8 +1,8 @@
 -- The parity of two rows: the sum over GF(2) of the products of their bits, by words, and its laws. Assumes nothing.
 use Rattle.std.proofs.Common.{◌≡◌, ℕ, zero, suc, ◌+◌, ◌*◌, ◌/◌, ◌%◌, ◌^◌, ◌<◌, Bool, false, ◌&&◌, eqb, get_or, sym, refl, ap, ◌∙◌, ap₂, pow-suc, arith}
-use Rattle.std.proofs.lemmas.Bool.Decides.{nat_tests}
 use lib.Bits.{bit_and, bit_xor}
 use lib.Count.{ones, ones_step, ones-le}
+use Rattle.std.proofs.lemmas.Bool.Decides.{nat_tests}
 use Rattle.cycle_space.specs.Sums.{fold}
 use Rattle.cycle_space.specs.Rows.{Row, bit, empty, add2, sum, common, odd, ParityLaws}
 use Rattle.cycle_space.proofs.Booleans.{and_comm, add2_and}
@@ -10,7 +10,7 @@ use Rattle.cycle_space.proofs.Folds.{bits, fold_same, fold_two, fold_none, fold_
 use Rattle.cycle_space.proofs.Bits.{bit_at, bit_at_and, bit_at_xor, bit_low, bit_suc, bit_of_word, empty_bit, sum_bit}
 
 -- the parity of a count is a sum over GF(2)
-pub common_parity : (x y : Row) (m : ℕ) → eqb (common x y m % 2) 1 ≡ fold false add2 m (λ j. bit x j && bit y j)
+common_parity : (x y : Row) (m : ℕ) → eqb (common x y m % 2) 1 ≡ fold false add2 m (λ j. bit x j && bit y j)
 unfolding common fold
 common_parity x y zero = refl
 common_parity x y (suc m) = let r = common_parity x y m in grind (arith, nat_tests)

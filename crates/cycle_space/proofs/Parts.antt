@@ -5,9 +5,9 @@ use Rattle.std.proofs.lemmas.Bool.Decides.{nat_tests}
 use Rattle.cycle_space.specs.Shapes.{Shape, Node, EndsAreNodes, OnePart, Parts, PartsAreCounted}
 use Rattle.cycle_space.specs.Labels.{label}
 use Rattle.cycle_space.specs.Sums.{count}
-use Rattle.cycle_space.proofs.Counting.{Different, no_more, choose, count_before, count_same_place, count_find, listed, listed_at}
 use Rattle.cycle_space.proofs.Runs.{run_then, run_back}
 use Rattle.cycle_space.proofs.Labels.{label_run, to_label, label_le, label_label, label_pos}
+use Rattle.cycle_space.proofs.Counting.{Different, no_more, choose, count_before, count_same_place, count_find, listed, listed_at}
 
 -- Parts
 

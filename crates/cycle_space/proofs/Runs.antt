@@ -1,9 +1,6 @@
 -- Runs of pipes: to be joined by one is an equivalence. Assumes nothing.
 use Rattle.std.proofs.Common.{ℕ, ◌≤◌, sym, refl, subst, arith}
-use Rattle.cycle_space.specs.Shapes.{Shape, Crosses, Run, stay, cross, PartLaws}
-
-crosses_back : (N : Shape) (j s t : ℕ) → Crosses N j s t → Crosses N j t s
-crosses_back N j s t c = grind arith
+use Rattle.cycle_space.specs.Shapes.{Shape, Run, stay, cross, PartLaws}
 
 module _ (N : Shape) (k : ℕ) where
   pub run_then : (s u t : ℕ) → Run N k s u → Run N k u t → Run N k s t
@@ -12,7 +9,7 @@ module _ (N : Shape) (k : ℕ) where
 
   pub run_back : (s t : ℕ) → Run N k s t → Run N k t s
   run_back s t (stay e) = stay (sym e)
-  run_back s t (cross j u l c r) = run_then t u s (run_back u t r) (cross j s l (crosses_back N j s u c) (stay refl))
+  run_back s t (cross j u l c r) = run_then t u s (run_back u t r) (cross j s l (grind arith) (stay refl))
 
 -- with more pipes to cross
 pub run_up : (N : Shape) (k m : ℕ) → k ≤ m → (s t : ℕ) → Run N k s t → Run N m s t

@@ -5,11 +5,7 @@ use Rattle.std.proofs.lemmas.Nat.Bits.{bit_at-pow_same, bit_at-pow_other}
 use Rattle.std.proofs.lemmas.Bool.Decides.{nat_tests}
 use Rattle.std.proofs.lemmas.List.{length-set, get_or-set_same, get_or-set_other}
 use Rattle.cycle_space.specs.Rows.{Row, bit, row_of, FourWords, empty}
-use Rattle.cycle_space.proofs.Bits.{bit_at, empty_bit, empty_row, row_of_words, row_bit, row_bits, known_by_bits}
-
--- the bits of a power of two
-power_bit : (a b : ℕ) → bit_at (2 ^ a) b ≡ eqb b a
-power_bit a b = let same = bit_at-pow_same a in let other = bit_at-pow_other a b in grind (arith, nat_tests)
+use Rattle.cycle_space.proofs.Bits.{empty_bit, empty_row, row_of_words, row_bit, row_bits, known_by_bits}
 
 -- the bits of a row with one pipe
 pub single_bit : (p j : ℕ) → p < 256 → bit (row_of (λ i. eqb (suc i) (suc p))) j ≡ eqb j p
@@ -37,7 +33,8 @@ module _ (p : ℕ) (l : p < 256) where
       let here = get_or-set_same empty (p / 64) (2 ^ (p % 64)) 0 (omega arith) in
       let there = get_or-set_other empty (p / 64) (j / 64) (2 ^ (p % 64)) 0 in
       let none = empty_bit j in
-      let at = power_bit (p % 64) (j % 64) in
+      let one = bit_at-pow_same (p % 64) in
+      let other = bit_at-pow_other (p % 64) (j % 64) in
       grind (arith, nat_tests)
 
   pub marked_is : marked p ≡ row_of (λ j. eqb (suc j) (suc p))

@@ -1,8 +1,8 @@
 -- The space of the closed sets of a shape, as functions, and the rows that stand for them. Assumes nothing.
 use Rattle.std.proofs.Common.{◌≡◌, ℕ, zero, suc, ◌<◌, ◌≤◌, Bool, true, false, cond, ◌&&◌, eqb, List, [], ◌∷◌, length, get_or, sym, refl, ap, ◌∙◌, ap₂, arith}
+use mathlib.Core.Path.{fun_ext}
 use Rattle.std.proofs.lemmas.List.FromFn.{length-map-range_with_len}
 use Rattle.std.proofs.lemmas.Bool.Decides.{nat_tests}
-use mathlib.Core.Path.{fun_ext}
 use Rattle.std.proofs.lemmas.List.{ext_get_or}
 use Rattle.cycle_space.specs.Sums.{fold}
 use Rattle.cycle_space.specs.Rows.{Row, bit, holds, FourWords, empty, row_of, add2, sum, odd}

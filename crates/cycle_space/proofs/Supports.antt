@@ -1,7 +1,5 @@
 -- Rings with their supports: the supports separate the closed sets, and one that has no ring yet misses a closed set. Assumes nothing.
 use Rattle.std.proofs.Common.{◌≡◌, ℕ, zero, suc, ◌<◌, Bool, true, false, ◌&&◌, sym, refl, ap, ◌∙◌, subst, ap₂, arith}
-use Rattle.cycle_space.proofs.Bits.{row_of_bits}
-use Rattle.cycle_space.proofs.Folds.{dot_add}
 use mathlib.Core.Path.{fun_ext}
 use native.Mathlib.Decide.{dec_lt}
 use borrow.Author.Tests.{both_ways}
@@ -11,17 +9,16 @@ use Rattle.cycle_space.specs.Labels.{closes}
 use Rattle.cycle_space.specs.Bases.{Closed}
 use Rattle.cycle_space.specs.Supports.{rank, before, Sound}
 use Rattle.cycle_space.proofs.Booleans.{not_so}
-use Rattle.cycle_space.proofs.Counting.{count_before, count_same_place, count_find}
+use Rattle.cycle_space.proofs.Folds.{dot_add}
+use Rattle.cycle_space.proofs.Bits.{row_of_bits}
 use Rattle.cycle_space.proofs.Labels.{closing_decided}
+use Rattle.cycle_space.proofs.Counting.{count_before, count_same_place, count_find}
 use Rattle.cycle_space.proofs.Linear.{Spans, Rings}
 use Rattle.cycle_space.proofs.Triangular.{missed, ring_basis}
 use Rattle.cycle_space.proofs.Closings.{separation, fundamental}
 use Rattle.cycle_space.proofs.Spaces.{none, xors, Cycle, odd_sets, odd_bits, odd_one, space, of_row, to_row, bits_back}
 
 module _ (N : Shape) (k : ℕ) (ring support : ℕ → Row) (s : Sound N k ring support) where
-  in_net : (x : ℕ → Bool) → Cycle N x → (j : ℕ) → x j ≡ true → j < N.pipes
-  in_net x c j e = elim (dec_lt j N.pipes) [ yes l ↦ l | no l ↦ absurd (both_ways (x j) (c.bounded j (omega arith)) e) ]
-
   -- no closing pipe is in a closed set that is even against all supports
   none_closing : (x : ℕ → Bool) → Cycle N x → ((i : ℕ) → i < rank N → odd_sets (bit (support i)) x ≡ false)
       → (b j : ℕ) → before N j < b → j < N.pipes → closes N j ≡ true → x j ≡ false
@@ -32,20 +29,20 @@ module _ (N : Shape) (k : ℕ) (ring support : ℕ → Row) (s : Sound N k ring 
       (λ i si xi.
       let low = s.lower (before N j) i (count_before (closes N) N.pipes j l cj) si in
       let less = none_closing x c h b i in
-      let in_x = in_net x c i xi in
+      let out = c.bounded i in
       let one = count_same_place (closes N) i j low.0 cj in
       grind arith))
       ∙ h (before N j) (count_before (closes N) N.pipes j l cj)
 
   -- the empty set alone is even against all supports
-  pub separated : (x : ℕ → Bool) → Cycle N x → ((i : ℕ) → i < rank N → odd_sets (bit (support i)) x ≡ false) → x ≡ none
+  separated : (x : ℕ → Bool) → Cycle N x → ((i : ℕ) → i < rank N → odd_sets (bit (support i)) x ≡ false) → x ≡ none
   separated x c h = fun_ext (λ j. elim (dec_lt j N.pipes) [
     | yes l ↦ separation N x c.closed (λ i li xi ci. both_ways (x i) (none_closing x c h (suc (before N i)) i (omega arith) li ((closing_decided N i).1 ci)) xi) j l
     | no l ↦ c.bounded j (omega arith)
   ])
 
   -- as long as a ring is missing, a closed set is odd against the next support
-  pub some_odd : k < rank N → (x : ℕ → Bool) × Cycle N x × (odd_sets (bit (support k)) x ≡ true)
+  some_odd : k < rank N → (x : ℕ → Bool) × Cycle N x × (odd_sets (bit (support k)) x ≡ true)
   some_odd lt =
       let at = count_find (closes N) N.pipes k lt in
       let j = at.0 in

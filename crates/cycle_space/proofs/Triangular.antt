@@ -1,7 +1,7 @@
 -- Rings whose supports separate the space are a basis of it, and rings that a support misses are none. Assumes nothing.
 use Rattle.std.proofs.Common.{◌≡◌, ℕ, zero, suc, ◌<◌, ◌≤◌, Bool, true, false, cond, sym, ap, ◌∙◌, ap₂, arith}
-use Rattle.std.proofs.lemmas.Bool.{cond_both}
 use borrow.Author.Tests.{both_ways}
+use Rattle.std.proofs.lemmas.Bool.{cond_both}
 use Rattle.cycle_space.specs.Sums.{fold}
 use Rattle.cycle_space.specs.Rows.{add2}
 use Rattle.cycle_space.proofs.Booleans.{by_eqb}
@@ -23,15 +23,6 @@ module _ {M : Type 0} {e : M} {op : M → M → M} {In : M → Type 0} (sp : Spa
 
   module _ {V : Type 0} {leq : V → V → Bool} {w : M → V} {S : ℕ → M → Bool} (adds : (i : ℕ) (x y : M) → S i (op x y) ≡ add2 (S i x) (S i y))
       {d : ℕ} {C : ℕ → M} (rings : Rings In leq w S d C) where
-    own_part : (k : ℕ) → k < d → (b : Bool) → S k (cond b (C k) e) ≡ b
-    own_part k l b = let own = rings.own k l in let none = at_none sp (S k) (adds k) in grind arith
-
-    no_part : (i k : ℕ) → k < i → i < d → (b : Bool) → S i (cond b (C k) e) ≡ false
-    no_part i k l m b = let even = rings.earlier i k l m in let none = at_none sp (S i) (adds i) in grind arith
-
-    in_part : (k : ℕ) → k < d → (b : Bool) → In (cond b (C k) e)
-    in_part k l b = cond_both b (C k) e In (λ _. rings.inside k l) (λ _. sp.has)
-
     -- none is picked where nothing is the sum
     none_picked : (k : ℕ) → k ≤ d → (v : ℕ → Bool) → picked e op k C v ≡ e → (i : ℕ) → i < k → v i ≡ false
     unfolding fold
@@ -41,7 +32,7 @@ module _ {M : Type 0} {e : M} {op : M → M → M} {In : M → Type 0} (sp : Spa
       where
         here : v k ≡ false
         here =
-            let own = own_part k l (v k) in
+            let own = rings.own k l in
             let others = even sp (S k) (adds k) k C v (λ j jl. rings.earlier k j jl l) in
             let sum = adds k (cond (v k) (C k) e) (picked e op k C v) in
             let none = at_none sp (S k) (adds k) in
@@ -54,8 +45,10 @@ module _ {M : Type 0} {e : M} {op : M → M → M} {In : M → Type 0} (sp : Spa
     cleared : (k : ℕ) → k < d → (x : M) → ((i : ℕ) → suc k ≤ i → i < d → S i x ≡ false) → (i : ℕ) → k ≤ i → i < d → S i (op (cond (S k x) (C k) e) x) ≡ false
     cleared k l x h i kl il =
         let sum = adds i (cond (S k x) (C k) e) x in
-        let own = own_part k l (S k x) in
-        let no = λ (m : k < i). no_part i k m il (S k x) in
+        let own = rings.own k l in
+        let earlier = rings.earlier i k in
+        let none = at_none sp (S k) (adds k) in
+        let none_i = at_none sp (S i) (adds i) in
         let even = h i in
         grind arith
 
@@ -66,7 +59,7 @@ module _ {M : Type 0} {e : M} {op : M → M → M} {In : M → Type 0} (sp : Spa
       reach zero l x x_in h = ((λ _. false), sym (separated x x_in (λ i il. h i (omega arith) il)))
       reach (suc k) l x x_in h =
           let c : M = cond (S k x) (C k) e in
-          let r = reach k (omega arith) (op c x) (sp.sums c x (in_part k l (S k x)) x_in) (cleared k l x h) in
+          let r = reach k (omega arith) (op c x) (sp.sums c x (cond_both (S k x) (C k) e In (λ _. rings.inside k l) (λ _. sp.has)) x_in) (cleared k l x h) in
           let s = r.0 in (
             put s k (S k x),
             ap₂ (λ b y. op (cond b (C k) e) y) (put_at s k (S k x))
