@@ -6,7 +6,7 @@ use Rattle.net.proofs.Seeking.{still_due, still_room, is_short, is_accepted, som
 use Rattle.net.proofs.net.Net.next.Goals as goal
 
 pub bounds-supports-found : goal.bounds-supports-found
-bounds-supports-found g c = still_room c.args.self.now c.is_complete.ensures c.if-is_complete.false
+bounds-supports-found g c = let room = still_room c.args.self.now c.is_complete.ensures c.if-is_complete.false in omega arith
 
 pub returns-in_err-ring-clause-replied : goal.returns-in_err-ring-clause-replied
 returns-in_err-ring-clause-replied g c =
@@ -34,10 +34,10 @@ returns-in_default-clause-replied g c =
     (nothing_found n rows long c.supports-supports.ensures room c.layout.result c.layout.ensures.drawn m.zero m.join m.within c.in_ok-ring.ensures.1 c.in_default.is))
 
 pub turn-requires : goal.turn-requires
-turn-requires g c = still_room c.args.self.now c.is_complete.ensures c.if-is_complete.false
+turn-requires g c = let room = still_room c.args.self.now c.is_complete.ensures c.if-is_complete.false in omega arith
 
 pub bounds-self-found : goal.bounds-self-found
-bounds-self-found g c = still_room c.args.self.now c.is_complete.ensures c.if-is_complete.false
+bounds-self-found g c = let room = still_room c.args.self.now c.is_complete.ensures c.if-is_complete.false in omega arith
 
 pub invariant_of-self-clause-keeps : goal.invariant_of-self-clause-keeps
 invariant_of-self-clause-keeps g c =
