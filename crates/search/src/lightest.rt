@@ -91,10 +91,8 @@ pub fn lightest_odd<M: Measure>(
     }
     M::join_keeps_order();
     let hunt = Hunt { net, support };
-    let found = hunt.lightest(scratch);
-    Ok(found.map(
-        |found| -> [u64; 4]
-            ensures { result ≡ found.row }
-        { found.row },
-    ))
+    let Some(found) = hunt.lightest(scratch) else {
+        return Ok(None);
+    };
+    Ok(Some(found.row))
 }
