@@ -36,7 +36,7 @@ impl From<ScratchTooShort> for Refusal {
     }
 }
 
-// Why a question for a row is declined; a row of zeros stands beside the refusal.
+// Why a question for a row is declined; by a rule of the project a row of zeros stands beside the refusal.
 #[derive(Clone, Copy, PartialEq, Eq, Debug)]
 pub struct NoRow {
     pub refusal: Refusal,
@@ -79,6 +79,7 @@ impl Refusal {
     }
 }
 
+// Printing is written and not derived: what a derive prints, no contract says.
 impl fmt::Display for Refusal {
     ghost output = { λ e. Some (words e) };
 

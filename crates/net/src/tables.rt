@@ -20,7 +20,8 @@ pub const NOWHERE: Ends = Ends {
     second: 0,
 };
 
-// What a net has besides the weights of its pipes. Pipe j stands at the place j - 1, and so does ring j with its support.
+// What a net has besides the weights of its pipes. Pipe j stands at the place j - 1, and so does ring j with its support. By a rule of the project a net
+// takes no heap: the tables are of fixed size, and the counts say how far they are used.
 #[derive(Drop)]
 pub struct Tables {
     pub(crate) nodes: usize,

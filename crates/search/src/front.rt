@@ -7,7 +7,8 @@ use crate::mark::Mark;
 use cycle_space::{single, sum};
 use measures::Measure;
 
-// A search from one node on its way: the marks of the states, and in the caller's scratch, `dist`, how far each reached state is.
+// A search from one node on its way: the marks of the states, and how far each reached state is. That stands in the caller's scratch, `dist`: by a rule of
+// the project nothing here takes heap.
 #[derive(Drop)]
 pub(crate) struct Front<'a, M: Measure> {
     pub(crate) hunt: &'a Hunt<'a, M>,
@@ -20,6 +21,7 @@ pub(crate) struct Front<'a, M: Measure> {
     ghost room: { states hunt.now.net.now ≤ length dist.now },
 }
 
+// States are asked to be states of this net: a type of states could not name the net.
 impl<M: Measure> Front<'_, M> {
     ghost use Rattle.std.specs.Prelude.{◌≡◌, ◌<◌, true, slice_index_or};
     ghost use Rattle.search.specs.Marks.{mark, reached};

@@ -5,7 +5,8 @@ ghost use Rattle.cycle_space.specs.Moments.{drawn};
 
 use cycle_space::Ends;
 
-// A net to search: so many nodes, numbered from 1, the ends of its pipes, and their weights.
+// A net to search: so many nodes, numbered from 1, the ends of its pipes, and their weights. These are two slices, since the weights stand in a column of
+// the caller's.
 #[derive(Drop)]
 pub struct Layout<'a, M> {
     pub nodes: usize,

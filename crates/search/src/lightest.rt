@@ -8,7 +8,6 @@ ghost use Rattle.search.specs.Finds.{Start, choose, ClosedThrough, Lightest};
 use crate::front::Front;
 use crate::hunt::Hunt;
 use crate::layout::Layout;
-use crate::mark::Mark;
 use cycle_space::has;
 use measures::Measure;
 
@@ -49,12 +48,7 @@ impl<M: Measure> Hunt<'_, M> {
         ensures { ClosedThrough (task self.now start) result }
     {
         let at = 2 * (start - 1) + 1;
-        let mut front = Front {
-            hunt: self,
-            start,
-            dist,
-            marks: [Mark::Unreached; 128],
-        };
+        let mut front = Front::at_start(self, start, dist);
         front.search();
         let row = front.marks[at].row()?;
         Some(Candidate {

@@ -1,24 +1,33 @@
 // The search from one node: label-setting, over states.
-ghost use Rattle.std.specs.Prelude.{◌≡◌, ◌<◌};
+ghost use Rattle.std.specs.Prelude.{◌≡◌, ◌<◌, ◌≤◌, length};
 ghost use Rattle.search.specs.Layouts.{states};
 ghost use Rattle.search.specs.Fronts.{Nearest};
-ghost use Rattle.search.specs.Tasks.{task_of};
+ghost use Rattle.search.specs.Tasks.{task, task_of};
 ghost use Rattle.search.specs.Searches.{Searching, Settling, Shortest, unsettled};
 
 use crate::front::Front;
+use crate::hunt::Hunt;
 use crate::mark::Mark;
 use measures::Measure;
 
-impl<M: Measure> Front<'_, M> {
-    // Reaches the start, and nothing else.
-    fn begin(&mut self)
-        ensures same { task_of self.new ≡ task_of self.old }
-        ensures searching { Searching (task_of self.new) self.new.marks self.new.dist.now }
+impl<'a, M: Measure> Front<'a, M> {
+    // The start is reached, and nothing else.
+    pub(crate) fn at_start(hunt: &'a Hunt<'a, M>, start: usize, dist: &'a mut [M]) -> Front<'a, M>
+        requires inside { (1 ≤ start) × (start ≤ hunt.now.net.now.nodes) }
+        requires room { states hunt.now.net.now ≤ length dist.old }
+        ensures same { task_of result ≡ task hunt.now start }
+        ensures searching { Searching (task_of result) result.marks result.dist.now }
     {
-        let s = 2 * (self.start - 1);
-        self.dist[s] = M::zero();
-        self.marks = [Mark::Unreached; 128];
-        self.marks[s] = Mark::Open([0; 4]);
+        let s = 2 * (start - 1);
+        dist[s] = M::zero();
+        let mut marks = [Mark::Unreached; 128];
+        marks[s] = Mark::Open([0; 4]);
+        Front {
+            hunt,
+            start,
+            dist,
+            marks,
+        }
     }
 
     // Relaxes every pipe at the node of the state u, which has just been settled.
@@ -49,12 +58,12 @@ impl<M: Measure> Front<'_, M> {
         self.spread(u);
     }
 
-    // Searches from the start until every reached state is settled.
+    // Searches on until every reached state is settled.
     pub(crate) fn search(&mut self)
+        requires { Searching (task_of self.old) self.old.marks self.old.dist.now }
         ensures same { task_of self.new ≡ task_of self.old }
         ensures shortest { Shortest (task_of self.new) self.new.marks self.new.dist.now }
     {
-        self.begin();
         while let Some(u) = self.nearest_open() {
             self.settle(u);
         }

@@ -11,8 +11,9 @@ returns g c =
     let s = c.args.start in
     let f = c.search.new.self in
     let room = f.room in
-    let nodes = ap (λ t. t.shape.nodes) c.search.ensures.same in
-    let short = rw c.search.ensures.same at c.search.ensures.shortest in
+    let same = c.search.ensures.same ∙ c.at_start-front.ensures.same in
+    let nodes = ap (λ t. t.shape.nodes) same in
+    let short = rw same at c.search.ensures.shortest in
     rw (← c.index-front-at.is)
     (found_at (task h s) (sound h s c.requires.inside.0 c.requires.inside.1) f.marks f.dist.now _ _
     (get_or_read f.dist.now _ c.index-front-at.result (omega arith) c.index-front-at.is _) (sym c.row.ensures ∙ c.in_ok-row.was) short)
