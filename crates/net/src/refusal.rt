@@ -90,6 +90,7 @@ impl fmt::Display for Refusal {
 
 impl Error for Refusal {}
 
+// It prints its refusal; written and not derived, as above.
 impl fmt::Display for NoRow {
     ghost output = { λ e. Some (words e.refusal) };
 

@@ -3,7 +3,7 @@ use measures::{Grade, Length, Measure};
 use net::*;
 use std::test::Fail;
 
-// A net of so many nodes, with pipes of these ends and weights.
+// A net of so many nodes, with pipes of these ends and weights: two slices, since the same ends are tried with weights of several measures.
 pub(crate) fn net_of<'a, M: Measure>(
     column: &'a mut [M],
     nodes: usize,
