@@ -23,15 +23,15 @@ fn grades() -> [Grade; 5] {
 }
 
 // Two nodes and two pipes between them.
-fn pair<'a, M: Measure>(column: &'a mut [M], first: M, second: M) -> Result<Net<'a, M>, Refusal> {
-    net_of(column, 2, &[(1, 2), (1, 2)], &[first, second])
+fn pair<'a, M: Measure>(column: &'a mut [M], weights: [M; 2]) -> Result<Net<'a, M>, Refusal> {
+    net_of(column, 2, &[(1, 2), (1, 2)], &weights)
 }
 
 #[test]
 fn two_pipes_between_two_nodes_are_one_ring(rt: HostRuntime) -> Result<(), Fail> {
     let mut column = [Length::new(9); 2];
     let mut scratch = [Length::new(9); 4];
-    let mut net = pair(&mut column, Length::new(4), Length::new(0))?;
+    let mut net = pair(&mut column, [Length::new(4), Length::new(0)])?;
     assert_eq!(rt; net.next(&mut scratch), Ok(1));
     assert_eq!(rt; net.ring(1)?[0], 3);
     assert_eq!(rt; net.ring_weight(1)?.value, 4);
@@ -43,7 +43,7 @@ fn two_pipes_between_two_nodes_are_one_ring(rt: HostRuntime) -> Result<(), Fail>
 fn two_graded_pipes_weigh_as_the_worse(rt: HostRuntime) -> Result<(), Fail> {
     let mut column = [Grade::new(9); 2];
     let mut scratch = [Grade::new(9); 4];
-    let mut net = pair(&mut column, Grade::new(4), Grade::new(0))?;
+    let mut net = pair(&mut column, [Grade::new(4), Grade::new(0)])?;
     assert_eq!(rt; net.next(&mut scratch), Ok(1));
     assert_eq!(rt; net.ring(1)?[0], 3);
     assert_eq!(rt; net.ring_weight(1)?.value, 4);
