@@ -6,7 +6,7 @@ use net::{Net, NoRow, Refusal, has};
 
 const NODES: usize = 4;
 
-// A pipe of the net: its two ends and its length.
+// A pipe of the net: its two ends and its length. (due_rings has such a struct too: a crate between two programs for three fields is no plainer.)
 #[derive(Clone, Copy)]
 struct Pipe(usize, usize, u64);
 

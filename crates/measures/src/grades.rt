@@ -3,7 +3,7 @@ ghost use Rattle.std.specs.Prelude.{◌≡◌, ◌^◌, ◌<◌, ◌≤◌, max,
 use crate::measure::{FileMeasure, Measure, up_to};
 use crate::refusal::Refusal;
 
-// A grade. The ghost field says what every value keeps: it is a number of 8 bits.
+// A grade. The ghost field says what every value keeps: it is a number of 8 bits. (No twin of a length: it is joined by another rule, with other laws.)
 #[derive(Clone, Copy, PartialEq, Eq, PartialOrd, Ord, Hash, Debug)]
 pub struct Grade {
     pub value: u8,
@@ -73,6 +73,7 @@ impl FileMeasure for Grade {
         ensures itself { MatchResult result (λ made. made.value ≡ number) (λ _. 255 < number) }
     {
         let value = up_to(Self::GREATEST, number)?;
+        // `as`, which is proved to lose nothing: `try_from` would have a branch that is never taken
         Ok(Grade { value: value as u8 })
     }
 }

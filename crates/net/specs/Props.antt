@@ -2,7 +2,7 @@
 use Rattle.std.proofs.Common.{ℕ}
 use mathlib.Core.HLevel.{Π_prop, ×_prop, ×₃_prop, ⊥_prop}
 use native.Mathlib.Nat.{ℕ_set}
-use native.Mathlib.Bridge.{le_prop}
+use Rattle.std.proofs.Math.Bridge.{le_prop}
 use Rattle.cycle_space.specs.Props.{sound_prop}
 use Rattle.net.specs.Keeps.{Joins, Keeps}
 use Rattle.net.specs.declared.tables.Tables.{Tables}

@@ -52,7 +52,7 @@ impl Labels {
         self.of[ends.first] == self.of[ends.second]
     }
 
-    // How many of the nodes 1 to `nodes` are their own label. (What `1..=nodes` yields the check does not follow.)
+    // How many of the nodes 1 to `nodes` are their own label. (What `1..=nodes` yields the check does not follow under `filter`.)
     pub(crate) fn parts(&self, nodes: usize) -> usize
         requires { nodes < 65 }
         ensures { result ≡ own_labels self.now nodes }

@@ -7,7 +7,7 @@ use search::ScratchTooShort;
 use std::error::Error;
 use std::fmt;
 
-// Why a call is declined.
+// Why a call is declined. `measures` has a refusal of its own with the same three functions; a trait for them would be longer than they are.
 #[derive(Clone, Copy, PartialEq, Eq, Debug)]
 pub enum Refusal {
     // There are 64 nodes already.

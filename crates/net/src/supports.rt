@@ -37,7 +37,7 @@ impl<M: Measure> Net<'_, M> {
     {
         let mut of = [NO_PIPES; 256];
         let mut labels = Labels::own();
-        let mut closing = 0; // counted by hand, since a closure that lays labels as it goes would tell the check nothing
+        let mut closing = 0; // by hand: of rows that are written through an iterator's `next` a proof knows only how many there are
         for (place, ends) in self.laid().iter().enumerate() {
             if labels.joined(*ends) {
                 of[closing].words = single(place + 1);

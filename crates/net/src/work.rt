@@ -1,6 +1,6 @@
 // Work on a net. In each contract the clause `lent` says that it is the caller's very column that the net works on, so that a caller knows what
-// the column holds when the net is gone. It is a fact of two moments, which no type could keep. Clauses name the three members of a measure that they
-// need, since the definitions below know no measure.
+// the column holds when the net is gone. It is a fact of two moments, which no type keeps. Clauses name the three members of a measure that they
+// need, since the definitions in `cycle_space`, which they lead to, know no measure.
 ghost use Rattle.std.specs.Prelude.{◌≡◌};
 ghost use Rattle.net.specs.Calls.{Opened, AddsNode, Lays, Lifts, Reweighs};
 ghost use Rattle.net.specs.Promise.{KeepsItsPromise};

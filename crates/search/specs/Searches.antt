@@ -1,7 +1,9 @@
 -- What holds of the front during a search, and after it. Assumes nothing.
 use Rattle.std.specs.Prelude.{◌≡◌, ℕ, ◌*◌, ◌<◌, true, not, ◌≢◌, List, length, Some, count_by, slice_index_or}
 use Rattle.search.specs.declared.mark.Mark.{Mark}
-use Rattle.search.specs.Tasks.{Task, Attained, Walk, arc, weight, even_start}
+use Rattle.measures.specs.declared.measure.Measure.{Ghosts}
+use Rattle.search.specs.declared.front.Front.{Front}
+use Rattle.search.specs.Tasks.{Task, task_of, Attained, Walk, arc, weight, even_start}
 use Rattle.search.specs.Marks.{is_settled, reached, opened, settled, row_at}
 
 -- the distance of the state k
@@ -39,6 +41,17 @@ pub record Settling {M : Type 0} (t : Task M) (u i : ℕ) (ms : List Mark) (d : 
 pub record Shortest {M : Type 0} (t : Task M) (ms : List Mark) (d : List M) : Type 0 where
   pub lower : (v : ℕ) (c : M) → Walk t v c → (reached ms v ≡ true) × (t.within (at t d v) c ≡ true)
   pub attained : (k : ℕ) → reached ms k ≡ true → Attained t k (row_at ms k) (at t d k)
+
+-- the same of a front, with its task, its marks and its distances
+module _ {M : Type 0} {m : Ghosts M} (f : Front M m) where
+  abbrev pub IsSearching : Type 0
+  IsSearching = Searching (task_of f) f.marks f.dist.now
+
+  abbrev pub IsSettling : ℕ → ℕ → Type 0
+  IsSettling u i = Settling (task_of f) u i f.marks f.dist.now
+
+  abbrev pub HasShortest : Type 0
+  HasShortest = Shortest (task_of f) f.marks f.dist.now
 
 -- how many states are not settled
 abbrev pub unsettled : List Mark → ℕ

@@ -21,8 +21,8 @@ pub(crate) struct Front<'a, M: Measure> {
     ghost room: { states hunt.now.net.now ≤ length dist.now },
 }
 
-// States are asked to be states of this net: a type of states could not name the net. And what writes says that the task stays (`same`), a fact of two
-// moments, which no type could keep.
+// States and pipes are asked to be of this net: as types of their own they would hold the net, and no call would be plainer. What writes says that the task
+// stays (`same`), a fact of two moments, which no type keeps.
 impl<M: Measure> Front<'_, M> {
     ghost use Rattle.std.specs.Prelude.{◌≡◌, ◌<◌, true, slice_index_or};
     ghost use Rattle.search.specs.Marks.{mark, reached};

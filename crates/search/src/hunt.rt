@@ -1,5 +1,5 @@
 // What is searched for, and where a pipe leads to. A state is a node with a parity: node v, from 1, with an even number of support pipes walked
-// is the state 2 * (v - 1), and with an odd number the state after it.
+// is the state 2 * (v - 1), and with an odd number the state after it. A state is a number, since it is a place among the marks and in the scratch.
 ghost use Rattle.measures.specs.Laws.{KeepsOrder};
 
 use crate::layout::Layout;

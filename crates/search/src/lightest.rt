@@ -85,7 +85,7 @@ pub fn lightest_odd<M: Measure>(
     }
     M::join_keeps_order();
     let hunt = Hunt { net, support };
-    // apart by hand: of `map` with a closure that reads a field the check knows no result
+    // no `map`: its closure would want a clause of its own
     let Some(found) = hunt.lightest(scratch) else {
         return Ok(None);
     };

@@ -158,6 +158,7 @@ fn a_full_net_is_completed(rt: HostRuntime) -> Result<(), Fail> {
     for _ in 0..64 {
         net.add_node()?;
     }
+    // steps and nodes, by their numbers
     for step in 1..=4 {
         for node in 0..64 {
             net.lay(node + 1, (node + step) % 64 + 1, Length::new(1))?;

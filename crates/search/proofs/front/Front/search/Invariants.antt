@@ -1,12 +1,12 @@
 use Rattle.std.proofs.Common.{◌≡◌}
 use Rattle.search.specs.Tasks.{task_of}
-use Rattle.search.specs.Searches.{Searching, unsettled}
+use Rattle.search.specs.Searches.{IsSearching, unsettled}
 use Rattle.search.proofs.front.Front.search.Given as goal
 
 abbrev pub invariant-loop-u : goal.invariant-loop-u
 invariant-loop-u g l = record {
   same : task_of l.self ≡ task_of l.initial.self;
-  searching : Searching (task_of l.self) l.self.marks l.self.dist.now;
+  searching : IsSearching l.self;
 }
 
 -- each turn settles a state

@@ -1,6 +1,6 @@
 use Rattle.std.proofs.Common.{◌≡◌}
 use Rattle.search.specs.Tasks.{task_of}
-use Rattle.search.specs.Searches.{Settling, unsettled}
+use Rattle.search.specs.Searches.{IsSettling, unsettled}
 use Rattle.search.proofs.front.Front.spread.Given as goal
 
 -- the pipes so far are relaxed, and no state is settled besides
@@ -8,5 +8,5 @@ abbrev pub invariant-loop-place : goal.invariant-loop-place
 invariant-loop-place g l = record {
   same : task_of l.self ≡ task_of l.initial.self;
   left : unsettled l.self.marks ≡ unsettled l.initial.self.marks;
-  settling : Settling (task_of l.self) l.u l.place l.self.marks l.self.dist.now;
+  settling : IsSettling l.self l.u l.place;
 }
