@@ -1,5 +1,5 @@
 -- Rows: sets of pipes as four words of 64 bits, their sum and their parity. Assumes nothing.
-use Rattle.std.specs.Prelude.{◌≡◌, ℕ, zero, suc, ◌+◌, ◌*◌, ◌/◌, ◌%◌, ◌^◌, ◌<◌, Bool, true, false, cond, not, List, [], ◌∷◌, length, ◌==◌, bit_xor, slice_index}
+use Rattle.std.specs.Prelude.{◌≡◌, ℕ, zero, suc, ◌+◌, ◌-◌, ◌*◌, ◌/◌, ◌%◌, ◌^◌, ◌<◌, ◌≤◌, ◌⊎◌, Option, None, Some, Bool, true, false, cond, not, List, [], ◌∷◌, length, ◌==◌, bit_xor, slice_index}
 
 -- a row: a set of pipes (an edge set, as a bit vector)
 abbrev pub Row : Type 0
@@ -13,6 +13,11 @@ bit row i = slice_index row (i / 64) / 2 ^ (i % 64) % 2 == 1
 abbrev pub holds : Row → ℕ → Bool
 holds row zero = false
 holds row (suc i) = bit row i
+
+-- where a pipe from 1 to 256 stands in a row, its word and its bit in that word; no other pipe stands in one
+abbrev pub SpotOf : ℕ → Option (ℕ × ℕ) → Type 0
+SpotOf pipe None = (pipe ≡ 0) ⊎ (256 < pipe)
+SpotOf pipe (Some spot) = (1 ≤ pipe) × (pipe ≤ 256) × (spot.0 ≡ (pipe - 1) / 64) × (spot.1 ≡ (pipe - 1) % 64)
 
 -- four words of 64 bits, as every [u64; 4] is
 pub record FourWords (row : Row) : Type 0 where

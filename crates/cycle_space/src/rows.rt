@@ -1,10 +1,10 @@
 // Rows: sets of the pipes 1 to 256, as four words of 64 bits.
-ghost use Rattle.std.specs.Prelude.{◌≡◌, ℕ, suc, ◌-◌, ◌/◌, ◌%◌, ◌<◌, ◌≤◌, ◌⊎◌, nat_eq, MatchOption};
-ghost use Rattle.cycle_space.specs.Rows.{holds, add2, row_of, sum, odd};
+ghost use Rattle.std.specs.Prelude.{◌≡◌, ℕ, suc, nat_eq};
+ghost use Rattle.cycle_space.specs.Rows.{SpotOf, holds, add2, row_of, sum, odd};
 
 // Where a pipe stands in a row: its word, and its bit in that word. There is no pipe 0, and none above 256.
 fn spot(pipe: usize) -> Option<(usize, usize)>
-    ensures { MatchOption result ((pipe ≡ 0) ⊎ (256 < pipe)) (λ s. (1 ≤ pipe) × (pipe ≤ 256) × (s.0 ≡ (pipe - 1) / 64) × (s.1 ≡ (pipe - 1) % 64)) }
+    ensures { SpotOf pipe result }
 {
     let place = pipe.checked_sub(1)?;
     (place < 256).then_some((place / 64, place % 64))

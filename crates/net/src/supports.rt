@@ -37,7 +37,7 @@ impl<M: Measure> Net<'_, M> {
     {
         let mut of = [NO_PIPES; 256];
         let mut labels = Labels::own();
-        let mut closing = 0; // by hand: of rows that are written through an iterator's `next` a proof knows only how many there are
+        let mut closing = 0; // by hand: an iterator of the rows would answer each in an option that is never none
         for (place, ends) in self.laid().iter().enumerate() {
             if labels.joined(*ends) {
                 of[closing].words = single(place + 1);
