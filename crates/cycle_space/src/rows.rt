@@ -31,7 +31,7 @@ pub fn single(pipe: usize) -> [u64; 4]
     row
 }
 
-// The pipes that are in one of the two rows and not in both.
+// The pipes that are in one of the two rows and not in both. Word by word, here and below: for four words a loop is no plainer.
 pub fn sum(x: [u64; 4], y: [u64; 4]) -> [u64; 4]
     ensures value { result ≡ sum x y }
     ensures pipes { (j : ℕ) → holds result j ≡ add2 (holds x j) (holds y j) }

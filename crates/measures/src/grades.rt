@@ -3,7 +3,8 @@ ghost use Rattle.std.specs.Prelude.{◌≡◌, ◌^◌, ◌<◌, ◌≤◌, max,
 use crate::measure::{FileMeasure, Measure, up_to};
 use crate::refusal::Refusal;
 
-// A grade. The ghost field says what every value keeps: it is a number of 8 bits. (No twin of a length: it is joined by another rule, with other laws.)
+// A grade. The ghost field says what every value keeps: it is a number of 8 bits. A type of its own beside Length, since it is joined by another rule,
+// with other laws.
 #[derive(Clone, Copy, PartialEq, Eq, PartialOrd, Ord, Hash, Debug)]
 pub struct Grade {
     pub value: u8,

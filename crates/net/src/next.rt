@@ -33,7 +33,8 @@ impl<M: Measure> Net<'_, M> {
         self.found() == self.due()
     }
 
-    // Finds the next ring, in scratch of at least twice as many values as there are nodes; answers its number. (`lent` is as in the calls of work.rt.)
+    // Finds the next ring, in scratch of at least twice as many values as there are nodes; answers its number. (For `lent` and the members of the
+    // measure see work.rt.)
     pub fn next(&mut self, scratch: &mut [M]) -> Result<usize, Refusal>
         ensures replied { FindsNext M.zero M.join M.within self.old scratch.old result self.new scratch.new }
         ensures lent { self.new.column.ghost_name ≡ self.old.column.ghost_name }

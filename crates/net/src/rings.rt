@@ -1,4 +1,4 @@
-// Questions about the rings found.
+// Questions about the rings found. Clauses name members of the measure for the reason that is told in work.rt.
 ghost use Rattle.std.specs.Prelude.{◌≡◌};
 ghost use Rattle.cycle_space.specs.Rivals.{joined_weight};
 ghost use Rattle.cycle_space.specs.Moments.{weight as set_weight};
@@ -39,7 +39,7 @@ impl<M: Measure> Net<'_, M> {
         Ok(self.weighed(self.tables.rows[self.ring_place(ring)?].words))
     }
 
-    // The joined weight of all rings found; zero if there is none.
+    // The joined weight of all rings found; zero if there is none. A loop, as the weight of a set is.
     pub fn joined_weight(&self) -> M
         ensures { result ≡ joined_weight M.Measure.zero M.Measure.join (view self.now) (rings self.now) }
     {

@@ -52,6 +52,7 @@ impl<M: Measure> Net<'_, M> {
     pub(crate) fn supports(&self) -> Supports
         ensures { (i : ℕ) → row_at result.of i ≡ supports_of self.now.tables i }
     {
+        // no ring yet, and so no support is written: a lay costs no labelling
         if self.tables.found == 0 {
             return self.closing_pipes();
         }

@@ -14,7 +14,7 @@ pub struct StoredRow {
 // A row without pipes.
 pub const NO_PIPES: StoredRow = StoredRow { words: [0; 4] };
 
-// What a place holds at opening.
+// What each place of the table of ends holds at opening.
 pub const NOWHERE: Ends = Ends {
     first: 0,
     second: 0,

@@ -1,6 +1,6 @@
 -- A closed set that is odd against the support holds a closed walk of odd parity from a node that a pipe of the support is drawn from.
 -- Assumes nothing.
-use Rattle.std.proofs.Common.{◌≡◌, ℕ, ◌-◌, ◌*◌, ◌%◌, Bool, true, false, eqb, List, [], ◌∷◌, sym, refl, ap, ◌∙◌, subst, ap₂, inl, arith, ne_eqb, eqb-true}
+use Rattle.std.proofs.Common.{◌≡◌, ℕ, ◌+◌, ◌-◌, ◌*◌, ◌%◌, Bool, true, false, eqb, List, [], ◌∷◌, sym, refl, ap, ◌∙◌, subst, ap₂, inl, arith, ne_eqb, eqb-true}
 use Rattle.cycle_space.specs.Rows.{Row, bit, add2, odd}
 use Rattle.cycle_space.specs.Bases.{Closed}
 use Rattle.cycle_space.proofs.Booleans.{add2_false, add2_assoc}
@@ -79,7 +79,7 @@ module _ {M : Type 0} (t : Task M) (laws : Lawful t) (net : Bounded t) where
       } in
       let home : s ≡ node (even_start t') = omega arith in
       let f = follow t' sound (bit x) (e ∷ ps) (even_start t') s t.none stay (subst (λ n. Path t.shape (e ∷ ps) n s) home (t.shape.second e, inl (refl, refl), path)) inside in
-      let even : is_odd (even_start t') ≡ false = ap (λ n. eqb n 1) (let z : 2 * (s - 1) % 2 ≡ 0 = omega arith in z) in
+      let even : is_odd (even_start t') ≡ false = ap (λ n. eqb n 1) (let z : (2 * (s - 1) + 0) % 2 ≡ 0 = omega arith in z) in
       let last = eqb-true (f.target % 2) 1 (f.turned ∙ ap₂ add2 even turns) in
       let back = f.there in
       let is : f.target ≡ odd_start t' = omega arith in

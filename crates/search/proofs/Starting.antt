@@ -1,5 +1,5 @@
 -- The front before the first turn. Assumes nothing.
-use Rattle.std.proofs.Common.{◌≡◌, ℕ, zero, suc, ◌-◌, ◌*◌, ◌%◌, ◌<◌, ◌≤◌, true, false, cond, eqb, ◌≢◌, List, length, get_or, set, replicate, sym, refl, ap, ◌∙◌, subst, ⊎_elim, arith, length-set, get_or-set_other, get_or-set_same}
+use Rattle.std.proofs.Common.{◌≡◌, ℕ, zero, suc, ◌+◌, ◌-◌, ◌*◌, ◌%◌, ◌<◌, ◌≤◌, true, false, cond, eqb, ◌≢◌, List, length, get_or, set, replicate, sym, refl, ap, ◌∙◌, subst, ⊎_elim, arith, length-set, get_or-set_other, get_or-set_same}
 use lib.ListN.{length-replicate, get_or-replicate}
 use borrow.Author.Tests.{both_ways}
 use Rattle.std.proofs.lemmas.Bool.{cases_eq, cases_lt}
@@ -38,7 +38,7 @@ module _ {M : Type 0} (t : Task M) (laws : Lawful t) (sound : Sound t) where
         ∙ bd_same t.shape (bit empty) (λ _. false) empty_bit v
         ∙ bd_none t.shape v
         ∙ sym (ap (λ n. add2 (eqb t.start v) (eqb n v)) there ∙ add2_same (eqb t.start v));
-    parity = parity_laws.none t.support ∙ ap (λ n. eqb n 1) (let z : 0 ≡ 2 * (t.start - 1) % 2 = omega arith in z);
+    parity = parity_laws.none t.support ∙ ap (λ n. eqb n 1) (let z : 0 ≡ (2 * (t.start - 1) + 0) % 2 = omega arith in z);
     weighs = subst (λ y. t.within y t.none ≡ true) (sym empty_weight) (self laws.base t.none);
   }
     where

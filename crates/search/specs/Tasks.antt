@@ -73,10 +73,10 @@ weight t j = slice_index_or t.weights j t.none
 
 -- the start with parity even, and with parity odd
 abbrev pub even_start : {M : Type 0} → Task M → ℕ
-even_start t = 2 * (t.start - 1)
+even_start t = state t.start 0
 
 abbrev pub odd_start : {M : Type 0} → Task M → ℕ
-odd_start t = 2 * (t.start - 1) + 1
+odd_start t = state t.start 1
 
 -- a walk from the even start to a state, with the joined weight of its crossings
 pub data Walk {M : Type 0} (t : Task M) : ℕ → M → Type 0 where

@@ -7,8 +7,8 @@ use crate::mark::Mark;
 use cycle_space::{single, sum};
 use measures::Measure;
 
-// A search from one node on its way: the marks of the states, and how far each reached state is. That stands in the caller's scratch, `dist`: by a rule of
-// the project nothing here takes heap.
+// A search from one node on its way: the marks of the states, and how far each reached state is. The distances stand in the caller's scratch, `dist`:
+// by a rule of the project nothing here takes heap.
 #[derive(Drop)]
 pub(crate) struct Front<'a, M: Measure> {
     pub(crate) hunt: &'a Hunt<'a, M>,
@@ -21,8 +21,9 @@ pub(crate) struct Front<'a, M: Measure> {
     ghost room: { states hunt.now.net.now ≤ length dist.now },
 }
 
-// States and pipes are asked to be of this net: as types of their own they would hold the net, and no call would be plainer. What writes says that the task
-// stays (`same`), a fact of two moments, which no type keeps.
+// States and pipes are asked to be of this net: as types of their own they would hold the net, and no call would be plainer. Each method that writes says
+// that the task stays (`same`), a fact of two moments, which no type keeps. The choice and the relaxing are defined for any members of a measure, as their
+// lemmas are, so clauses name those that they need.
 impl<M: Measure> Front<'_, M> {
     ghost use Rattle.std.specs.Prelude.{◌≡◌, ◌<◌, true, slice_index_or};
     ghost use Rattle.search.specs.Marks.{mark, reached};

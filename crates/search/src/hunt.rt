@@ -1,8 +1,8 @@
-// What is searched for, and where a pipe leads to. A state is a node with a parity: node v, from 1, with an even number of support pipes walked
-// is the state 2 * (v - 1), and with an odd number the state after it. A state is a number, since it is a place among the marks and in the scratch.
+// What is searched for, and where a pipe leads to.
 ghost use Rattle.measures.specs.Laws.{KeepsOrder};
 
 use crate::layout::Layout;
+use crate::mark::state;
 use cycle_space::has;
 use measures::Measure;
 
@@ -15,8 +15,9 @@ pub(crate) struct Hunt<'a, M: Measure> {
     ghost order: { KeepsOrder M.join M.within },
 }
 
+// States and pipes are asked for as in front.rt.
 impl<M: Measure> Hunt<'_, M> {
-    ghost use Rattle.std.specs.Prelude.{◌≡◌, ◌*◌, ◌<◌, ◌≤◌, length};
+    ghost use Rattle.std.specs.Prelude.{◌≡◌, ◌<◌, ◌≤◌, length};
     ghost use Rattle.search.specs.Layouts.{states};
     ghost use Rattle.search.specs.Fronts.{Inside};
     ghost use Rattle.search.specs.Sought.{plan};
@@ -28,9 +29,9 @@ impl<M: Measure> Hunt<'_, M> {
         ensures { result ≡ arrival self.now.support node u place }
     {
         if has(self.support, place + 1) {
-            2 * (node - 1) + (1 - u % 2)
+            state(node, 1 - u % 2)
         } else {
-            2 * (node - 1) + u % 2
+            state(node, u % 2)
         }
     }
 

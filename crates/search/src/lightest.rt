@@ -8,6 +8,7 @@ ghost use Rattle.search.specs.Finds.{Start, choose, ClosedThrough, Lightest};
 use crate::front::Front;
 use crate::hunt::Hunt;
 use crate::layout::Layout;
+use crate::mark::state;
 use cycle_space::has;
 use measures::Measure;
 
@@ -41,13 +42,13 @@ impl<M: Measure> Hunt<'_, M> {
         pipes.any(|(place, ends)| ends.first == node && has(self.support, place + 1))
     }
 
-    // The lightest odd closed walk through the node.
+    // The lightest odd closed walk through the node. What start and scratch must be is asked here and below, where there is no front yet that keeps it.
     fn closed_through(&self, start: usize, dist: &mut [M]) -> Option<Candidate<M>>
         requires inside { (1 ≤ start) × (start ≤ self.now.net.now.nodes) }
         requires room { states self.now.net.now ≤ length dist.old }
         ensures { ClosedThrough (task self.now start) result }
     {
-        let at = 2 * (start - 1) + 1;
+        let at = state(start, 1);
         let mut front = Front::at_start(self, start, dist);
         front.search();
         let row = front.marks[at].row()?;

@@ -1,6 +1,16 @@
-// What a search knows of a state.
-ghost use Rattle.std.specs.Prelude.{◌≡◌};
+// States, and what a search knows of them. A state is a node with a parity: node v, from 1, with an even number of support pipes walked is the state
+// 2 * (v - 1), and with an odd number the state after it. It is a number, since it is a place among the marks and in the scratch.
+ghost use Rattle.std.specs.Prelude.{◌≡◌, ◌≤◌};
 ghost use Rattle.search.specs.Marks.{is_open, walked};
+ghost use Rattle.search.specs.Tasks.{state};
+
+// The state of a node with an even number of support pipes walked, parity 0, or an odd one, parity 1.
+pub(crate) fn state(node: usize, parity: usize) -> usize
+    requires { (1 ≤ node) × (node ≤ 64) × (parity ≤ 1) }
+    ensures { result ≡ state node parity }
+{
+    2 * (node - 1) + parity
+}
 
 // The mark of a state, with the row walked to it.
 #[derive(Clone, Copy)]

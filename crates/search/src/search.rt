@@ -1,4 +1,4 @@
-// The search from one node: label-setting, over states.
+// The search from one node: label-setting, over states. (States, pipes and `same` are as in front.rt.)
 ghost use Rattle.std.specs.Prelude.{◌≡◌, ◌<◌, ◌≤◌, length};
 ghost use Rattle.search.specs.Layouts.{states};
 ghost use Rattle.search.specs.Fronts.{Nearest};
@@ -7,7 +7,7 @@ ghost use Rattle.search.specs.Searches.{IsSearching, IsSettling, HasShortest, un
 
 use crate::front::Front;
 use crate::hunt::Hunt;
-use crate::mark::Mark;
+use crate::mark::{Mark, state};
 use measures::Measure;
 
 impl<'a, M: Measure> Front<'a, M> {
@@ -18,7 +18,7 @@ impl<'a, M: Measure> Front<'a, M> {
         ensures same { task_of result ≡ task hunt.now start }
         ensures searching { IsSearching result }
     {
-        let s = 2 * (start - 1);
+        let s = state(start, 0);
         dist[s] = M::zero();
         let mut marks = [Mark::Unreached; 128];
         marks[s] = Mark::Open([0; 4]);

@@ -18,10 +18,6 @@ fn lengths() -> [Length; 5] {
     [3, 4, 5, 1, 1].map(Length::new)
 }
 
-fn grades() -> [Grade; 5] {
-    [3, 4, 5, 1, 1].map(Grade::new)
-}
-
 // Two nodes and two pipes between them.
 fn pair<'a, M: Measure>(column: &'a mut [M], weights: [M; 2]) -> Result<Net<'a, M>, Refusal> {
     net_of(column, 2, &[(1, 2), (1, 2)], &weights)
@@ -73,7 +69,7 @@ fn the_kite_by_length_has_rings_of_seven_and_nine(rt: HostRuntime) -> Result<(),
 fn the_kite_by_grade_has_rings_of_five_and_four(rt: HostRuntime) -> Result<(), Fail> {
     let mut column = [Grade::new(0); 5];
     let mut scratch = [Grade::new(0); 8];
-    let mut net = kite(&mut column, grades())?;
+    let mut net = kite(&mut column, [3, 4, 5, 1, 1].map(Grade::new))?;
     assert_eq!(rt; net.next(&mut scratch), Ok(1));
     assert_eq!(rt; net.next(&mut scratch), Ok(2));
     assert_eq!(rt; net.ring_weight(1)?.value, 5);

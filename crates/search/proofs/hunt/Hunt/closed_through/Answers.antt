@@ -1,5 +1,6 @@
-use Rattle.std.proofs.Common.{sym, ap, ◌∙◌, arith}
+use Rattle.std.proofs.Common.{get_or, sym, ap, ◌∙◌, arith}
 use Rattle.std.proofs.lemmas.List.{get_or_read}
+use Rattle.search.specs.Marks.{mark, walked}
 use Rattle.search.specs.Tasks.{task}
 use Rattle.search.proofs.Finding.{found_at}
 use Rattle.search.proofs.Laying.{sound}
@@ -14,6 +15,9 @@ returns g c =
     let same = c.search.ensures.same ∙ c.at_start-front.ensures.same in
     let nodes = ap (λ t. t.shape.nodes) same in
     let short = rw same at c.search.ensures.shortest in
+    let zero = g.M.Measure.zero in
+    let at = c.state-at.ensures in
     rw (← c.index-front-at.is)
     (found_at (task h s) (sound h s c.requires.inside.0 c.requires.inside.1) f.marks f.dist.now _ _
-    (get_or_read f.dist.now _ c.index-front-at.result (omega arith) c.index-front-at.is _) (sym c.row.ensures ∙ c.in_ok-row.was) short)
+    (get_or_read f.dist.now _ c.index-front-at.result (omega arith) c.index-front-at.is zero ∙ ap (λ k. get_or f.dist.now k zero) at)
+    (sym (ap (λ k. walked (mark f.marks k)) at) ∙ (sym c.row.ensures ∙ c.in_ok-row.was)) short)
