@@ -1,7 +1,7 @@
 -- The bits of words and of rows: a row is known by its pipes, and the laws of the sum. Assumes nothing.
 use Rattle.std.proofs.Common.{◌≡◌, ℕ, zero, suc, ◌+◌, ◌-◌, ◌*◌, ◌/◌, ◌%◌, ◌^◌, ◌<◌, ◌≤◌, Bool, false, cond, ◌&&◌, eqb, [], ◌∷◌, length, get_or, sym, refl, ap, ◌∙◌, subst, ap₂, pow-suc, arith}
 use native.Mathlib.Decide.{dec_lt}
-use lib.Bits.{bit_and, bit_xor, xor_lt}
+use lib.Bits.{bit_and, bit_xor, xor_lt, and_mask}
 use Rattle.std.proofs.lemmas.Nat.Bits.{bit_at_lowest, bit_at-suc, bit_at-zero, bit_at_and as and_at, bit_at_xor as xor_at, same_from_bits_below}
 use Rattle.std.proofs.lemmas.Bool.Decides.{nat_tests}
 use Rattle.std.proofs.lemmas.List.{get_or_past, ext_get_or}
@@ -45,6 +45,11 @@ bit_past r l j h = ap (λ n. bit_at n (j % 64)) (get_or_past r (j / 64) 0 (omega
 pub holds_bit : (r : Row) (j : ℕ) → 0 < j → holds r j ≡ bit r (j - 1)
 holds_bit r zero l = absurd (omega arith)
 holds_bit r (suc j) l = ap (bit r) (omega arith)
+
+-- what is read of a row at the spot of a pipe
+pub read_at : (r : Row) (j word place : ℕ) → 0 < j → word ≡ (j - 1) / 64 → place ≡ (j - 1) % 64 → eqb (bit_and (get_or r word 0 / 2 ^ place) 1) 1 ≡ holds r j
+unfolding bit
+read_at r j word place l w p = rw (w, p) (ap (λ v. eqb v 1) (and_mask _ 1) ∙ sym (holds_bit r j l))
 
 pub holds_past : (r : Row) → length r ≡ 4 → (j : ℕ) → 256 < j → holds r j ≡ false
 holds_past r l zero h = absurd (omega arith)

@@ -1,6 +1,6 @@
 -- The row of one pipe. Assumes nothing.
-use Rattle.std.proofs.Common.{◌≡◌, ℕ, suc, ◌/◌, ◌%◌, ◌^◌, ◌<◌, ◌≤◌, Bool, eqb, set, sym, ◌∙◌, arith, ne_eqb}
-use Rattle.std.proofs.lemmas.Nat.{pow_below}
+use Rattle.std.proofs.Common.{◌≡◌, ℕ, suc, ◌-◌, ◌*◌, ◌/◌, ◌%◌, ◌^◌, ◌<◌, ◌≤◌, Bool, eqb, set, sym, ap, ◌∙◌, arith, ne_eqb}
+use Rattle.std.proofs.lemmas.Nat.{one_shl, pow_below}
 use Rattle.std.proofs.lemmas.Nat.Bits.{bit_at-pow_same, bit_at-pow_other}
 use Rattle.std.proofs.lemmas.Bool.Decides.{nat_tests}
 use Rattle.std.proofs.lemmas.List.{length-set, get_or-set_same, get_or-set_other}
@@ -42,6 +42,16 @@ module _ (p : ℕ) (l : p < 256) where
     where
       f : ℕ → Bool
       f j = eqb (suc j) (suc p)
+
+-- the empty row with the bit at the spot of a pipe set
+pub marked_at : (pipe word place : ℕ) → 1 ≤ pipe → pipe ≤ 256 → word ≡ (pipe - 1) / 64 → place ≡ (pipe - 1) % 64
+    → set empty word (1 * 2 ^ place % 2 ^ 64) ≡ row_of (λ j. eqb (suc j) pipe)
+marked_at pipe word place l h w p =
+    rw (w, p) (
+    ap (set empty ((pipe - 1) / 64)) (one_shl ((pipe - 1) % 64) 64 (omega arith))
+    ∙ marked_is (pipe - 1) (omega arith)
+    ∙ ap (λ k. row_of (λ j. eqb (suc j) k)) (let q : suc (pipe - 1) ≡ pipe = omega arith in q)
+    )
 
 -- what is no pipe's number gives the empty row
 pub none_marked : (pipe : ℕ) → ((1 ≤ pipe) × (pipe ≤ 256) → ⊥) → empty ≡ row_of (λ j. eqb (suc j) pipe)

@@ -1,5 +1,5 @@
 -- Sets of pipes with their boundaries, runs as lists of pipes, trails in a set, and rings that are odd against a set. Assumes nothing.
-use Rattle.std.proofs.Common.{◌≡◌, ℕ, zero, suc, ◌%◌, ◌<◌, Bool, true, false, not, ◌&&◌, eqb, List, [], ◌∷◌, sym, refl, ap, ◌∙◌, subst, ap₂, inl, inr, arith, ne_eqb, eqb-true}
+use Rattle.std.proofs.Common.{◌≡◌, ℕ, zero, suc, ◌%◌, ◌<◌, Bool, true, false, not, ◌&&◌, ◌||◌, eqb, List, [], ◌∷◌, sym, refl, ap, ◌∙◌, subst, ap₂, inl, inr, arith, ne_eqb, eqb-true}
 use borrow.Author.Tests.{both_ways}
 use Rattle.std.proofs.lemmas.Bool.{and_parts}
 use Rattle.std.proofs.lemmas.Bool.Decides.{nat_tests}
@@ -7,7 +7,7 @@ use Rattle.cycle_space.specs.Sums.{fold, count}
 use Rattle.cycle_space.specs.Rows.{Row, bit, add2}
 use Rattle.cycle_space.specs.Shapes.{Shape, Crosses, Run, stay, cross}
 use Rattle.cycle_space.specs.Bases.{touching}
-use Rattle.cycle_space.proofs.Booleans.{by_eqb, eqb_same, add2_same, add2_false, add2_comm, add2_assoc, add2_and, and_comm}
+use Rattle.cycle_space.proofs.Booleans.{by_eqb, not_so, eqb_same, add2_same, add2_false, add2_comm, add2_assoc, add2_and, and_comm}
 use Rattle.cycle_space.proofs.Folds.{bits, fold_same, fold_two, fold_none, sum_lone, dot_add, sum_find}
 use Rattle.cycle_space.proofs.Counting.{flip, count_less, count_out}
 
@@ -40,6 +40,14 @@ Distinct (j ∷ ps) = Every (λ i. i ≡ j → ⊥) ps × Distinct ps
 -- a pipe of the net that is in x
 abbrev pub Inside : Shape → (ℕ → Bool) → ℕ → Type 0
 Inside N x j = (j < N.pipes) × (x j ≡ true)
+
+abbrev pub among : ℕ → List ℕ → Bool
+among i [] = false
+among i (j ∷ ps) = eqb i j || among i ps
+
+-- x without the pipes of the list
+abbrev pub minus : (ℕ → Bool) → List ℕ → ℕ → Bool
+minus x ps i = x i && not (among i ps)
 
 -- the parity of what x, or a list of pipes, has of the set S
 abbrev pub odd_in : Shape → (ℕ → Bool) → (ℕ → Bool) → Bool
@@ -104,6 +112,17 @@ tally_in P [] e i h = absurd (both_ways false refl h)
 tally_in P (j ∷ ps) e i h =
     by_eqb (λ c. add2 c (tally ps i) ≡ true → P i) i j (λ q _. subst P (sym q) e.0) (λ _ k. tally_in P ps e.1 i k) h
 
+-- in a list without repetition a pipe is once or not at all
+tally_among : (ps : List ℕ) → Distinct ps → (i : ℕ) → tally ps i ≡ among i ps
+tally_among [] d i = refl
+tally_among (j ∷ ps) d i =
+    by_eqb (λ c. add2 c (tally ps i) ≡ (c || among i ps)) i j
+    (λ q. ap not (not_so (tally ps i) (λ e. tally_in (λ l. l ≡ j → ⊥) ps d.0 i e q)))
+    (λ _. tally_among ps d.1 i)
+
+minus_tally : (N : Shape) (x : ℕ → Bool) (ps : List ℕ) → Every (Inside N x) ps → Distinct ps → (i : ℕ) → minus x ps i ≡ add2 (x i) (tally ps i)
+minus_tally N x ps e d i = let once = tally_among ps d i in let inside = tally_in (Inside N x) ps e i in grind arith
+
 abbrev pub Found : Shape → (ℕ → Bool) → ℕ → ℕ → Type 0
 Found N x s t = (ps : List ℕ) × Walk N ps s t × Every (Inside N x) ps × Distinct ps × Even N (λ i. add2 (x i) (tally ps i))
 
@@ -152,10 +171,16 @@ trail_go (suc k) N x s t c h =
     let less = count_out N.pipes x r.0 r.2 r.3 in
     extend N x s t r.0 r.1 r.2 r.3 r.4 (trail_go k N (flip x r.0) r.1 t (omega arith) r.5))
 
--- a run without repetition in a set whose only odd nodes are its ends, and what is left is closed
-pub trail : (N : Shape) (x : ℕ → Bool) (s t : ℕ) → ((w : ℕ) → boundary N x w ≡ ends s t w) → Found N x s t
+pub found : (N : Shape) (x : ℕ → Bool) (s t : ℕ) → ((w : ℕ) → boundary N x w ≡ ends s t w) → Found N x s t
 unfolding Bounds
-trail N x s t h = trail_go (suc (count N.pipes x)) N x s t (omega arith) h
+found N x s t h = trail_go (suc (count N.pipes x)) N x s t (omega arith) h
+
+-- a run without repetition in a set whose only odd nodes are its ends, and what is left is closed
+pub trail : (N : Shape) (x : ℕ → Bool) (s t : ℕ) → ((w : ℕ) → boundary N x w ≡ ends s t w)
+    → (ps : List ℕ) × Walk N ps s t × Every (Inside N x) ps × Distinct ps × Even N (minus x ps)
+trail N x s t h =
+    let f = found N x s t h in
+    (f.0, f.1, f.2, f.3, λ w. bd_same N (minus x f.0) (λ i. add2 (x i) (tally f.0 i)) (minus_tally N x f.0 f.2 f.3) w ∙ f.4 w)
 
 -- x without a pipe j of it, where x is closed
 pub opened : (N : Shape) (x : ℕ → Bool) → Even N x → (j : ℕ) → j < N.pipes → (w : ℕ) → boundary N (flip x j) w ≡ ends (N.first j) (N.second j) w
@@ -204,7 +229,7 @@ first N S x h o =
     let both = and_parts (S e) (x e) r.2 in
     let Se = both.0 in
     let xe = both.1 in
-    let f = trail N (flip x e) (N.second e) (N.first e) (λ w. opened N x h e l w ∙ add2_comm (eqb (N.first e) w) (eqb (N.second e) w)) in
+    let f = found N (flip x e) (N.second e) (N.first e) (λ w. opened N x h e l w ∙ add2_comm (eqb (N.first e) w) (eqb (N.second e) w)) in
     let g = extend N x (N.first e) (N.first e) e (N.second e) l xe (inl (refl, refl)) f in
     let out = count_out N.pipes x e l xe in
     let le = count_less N.pipes (λ i. add2 (flip x e i) (tally f.0 i)) (flip x e) (λ i _. left_in N (flip x e) f.0 f.2 i) in
@@ -248,3 +273,22 @@ odd_ring N S x h o = ring_go (suc (count N.pipes x)) N S x (omega arith) h o
 pub walk_run : (N : Shape) (k : ℕ) (ps : List ℕ) (s t : ℕ) → Walk N ps s t → Every (λ j. j < k) ps → Run N k s t
 walk_run N k [] s t w e = stay w
 walk_run N k (j ∷ ps) s t w e = cross j w.0 e.0 w.1 (walk_run N k ps w.0 t w.2 e.1)
+
+-- the boundary of a run, each pipe as often as it is crossed
+pub bd_tally : (N : Shape) (ps : List ℕ) (s t : ℕ) → Walk N ps s t → Every (λ j. j < N.pipes) ps → (w : ℕ) → boundary N (tally ps) w ≡ ends s t w
+bd_tally N [] s t r e w = bd_none N w ∙ sym (ends_same s t r w)
+bd_tally N (j ∷ ps) s t r e w =
+    let added = bd_add N (λ i. eqb i j) (tally ps) w in
+    let one = bd_one N j e.0 w in
+    let crossed = ends_cross N j s r.0 r.1 w in
+    let rest = bd_tally N ps r.0 t r.2 e.1 w in
+    grind arith
+
+-- the pipes of a run without repetition, as a set: its boundary, and its parity against a set
+pub run_set : (N : Shape) (ps : List ℕ) (s t : ℕ) → Walk N ps s t → Every (λ j. j < N.pipes) ps → Distinct ps
+    → ((w : ℕ) → boundary N (λ i. among i ps) w ≡ ends s t w)
+    × ((S : ℕ → Bool) → odd_in N S (λ i. among i ps) ≡ parity S ps)
+run_set N ps s t r e d = (
+  λ w. bd_same N (λ i. among i ps) (tally ps) (λ i. sym (tally_among ps d i)) w ∙ bd_tally N ps s t r e w,
+  λ S. fold_same bits N.pipes (λ j. S j && among j ps) (λ j. S j && tally ps j) (λ j _. ap (λ c. S j && c) (sym (tally_among ps d j))) ∙ odd_tally N S ps e,
+)

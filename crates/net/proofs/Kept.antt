@@ -1,6 +1,6 @@
 -- What is seen of a net, by what every net keeps. Assumes nothing.
-use Rattle.std.proofs.Common.{◌≡◌, ℕ, ◌+◌, ◌-◌, ◌<◌, ◌≤◌, List, map, length, get_or, take, sym, refl, ap, ◌∙◌, subst, ap₂, arith}
-use Rattle.std.proofs.lemmas.List.{length-map, length-take-le, get_or-map, get_or-take}
+use Rattle.std.proofs.Common.{◌≡◌, ℕ, ◌+◌, ◌-◌, ◌<◌, ◌≤◌, List, map, length, get_or, take, drop, sym, refl, ap, ◌∙◌, subst, ap₂, arith}
+use Rattle.std.proofs.lemmas.List.{length-map, length-take-le, get_or-map, get_or-take, take_all}
 use Rattle.cycle_space.specs.Rows.{empty}
 use Rattle.cycle_space.specs.Shapes.{Shape, EndsAreNodes, Parts, Due}
 use Rattle.cycle_space.proofs.Due.{parts_few, parts_enough}
@@ -12,6 +12,11 @@ use Rattle.cycle_space.specs.declared.ends.Ends.{Ends}
 use Rattle.net.specs.declared.net.Net.{Net}
 use Rattle.net.proofs.Keeping.{laid_pipes}
 use Rattle.net.proofs.Views.{as_many, seen_length, ends_seen, weighed}
+
+-- a list from its first place on is that list
+pub from_first : {A : Type 0} (k : ℕ) (xs ys : List A) → k ≡ 0 → xs ≡ ys → take (length xs - k) (drop k xs) ≡ ys
+from_first k xs ys first same =
+    ap (λ j. take (length xs - j) (drop j xs)) first ∙ take_all (length xs - 0) xs (omega arith) ∙ same
 
 module _ {M : Type 0} (n : Net M) where
   pub ends_for_all : n.tables.pipes ≤ length n.tables.ends

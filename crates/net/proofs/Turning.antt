@@ -25,18 +25,20 @@ turned ring own r = cond (odd ring r.words) (record { words = sum r.words own })
 pub turned_is : (ring own : Row) (r : StoredRow) (b : Bool) → odd ring r.words ≡ b → turned ring own r ≡ cond b (record { words = sum r.words own }) r
 turned_is ring own r b e = ap (λ x. cond x (record { words = sum r.words own }) r) e
 
+-- the later supports begin at the place b
 module _ (start : List StoredRow) (k : ℕ) (ring : Row) (long : length start ≡ 256) (lk : k < 256) (own : Row) (is_own : own ≡ row_at start k) (later : List StoredRow)
-    (all : later ≡ map (turned ring own) (mid_of (k + 1) (256 - (k + 1)) start)) where
+    (b : ℕ) (begins : b ≡ k + 1) (all : later ≡ map (turned ring own) (mid_of b (256 - b) start)) where
   -- the table, and its two parts
   abbrev table : List StoredRow
-  table = put_mid (k + 1) (256 - (k + 1)) start later
+  table = put_mid b (256 - b) start later
 
   parts : table ≡ take (k + 1) start ++ map (turned ring own) (drop (k + 1) start)
   parts =
-      let rest = length-drop (k + 1) start in
-      ap (λ rows. take (k + 1) start ++ rows)
-      (ap (λ rows. later ++ rows) (drop_all (256 - (k + 1)) (drop (k + 1) start) (omega arith)) ∙ append-nil later
-      ∙ all ∙ ap (map (turned ring own)) (take_all (256 - (k + 1)) (drop (k + 1) start) (omega arith)))
+      let rest = length-drop b start in
+      ap (λ rows. take b start ++ rows)
+      (ap (λ rows. later ++ rows) (drop_all (256 - b) (drop b start) (omega arith)) ∙ append-nil later
+      ∙ all ∙ ap (map (turned ring own)) (take_all (256 - b) (drop b start) (omega arith)))
+      ∙ ap (λ j. take j start ++ map (turned ring own) (drop j start)) begins
 
   front : length (take (k + 1) start) ≡ k + 1
   front = length-take-le (k + 1) start (omega arith)

@@ -1,6 +1,5 @@
 -- The pipes that are seen, by the table of ends and the column, and what a write makes of them. Assumes nothing.
 use Rattle.std.proofs.Common.{◌≡◌, ℕ, zero, suc, ◌+◌, ◌-◌, ◌<◌, ◌≤◌, List, [], ◌∷◌, ◌++◌, map, length, take, set, sym, refl, ap, ◌∙◌, ap₂, arith}
-use Rattle.std.proofs.Math.Seq.{take-set-lt}
 use Rattle.std.proofs.lemmas.List.{take_more_set, take-take, length-take-le}
 use Rattle.cycle_space.specs.Moments.{Pipe, Moment, add_pipe, drop_last, reweighed, reweigh_pipe}
 use Rattle.net.specs.Views.{pipes_of}
@@ -45,6 +44,12 @@ module _ {M : Type 0} where
   pipes_reweighed (e ∷ es) (v ∷ ws) zero w = refl
   pipes_reweighed (e ∷ es) (v ∷ ws) (suc j) w = ap (λ ps. pipe e v ∷ ps) (pipes_reweighed es ws j w)
 
+take_set : {A : Type 0} (k : ℕ) (xs : List A) (j : ℕ) (x : A) → take k (set xs j x) ≡ set (take k xs) j x
+take_set zero xs j x = refl
+take_set (suc k) [] j x = refl
+take_set (suc k) (y ∷ ys) zero x = refl
+take_set (suc k) (y ∷ ys) (suc j) x = ap (λ zs. y ∷ zs) (take_set k ys j x)
+
 module _ {M : Type 0} (nodes pipes : ℕ) (ends : List Ends) (column : List M) where
   abbrev pub seen : Moment M
   seen = record { nodes = nodes; pipes = pipes_of (take pipes ends) (take pipes column) }
@@ -69,8 +74,8 @@ module _ {M : Type 0} (nodes pipes : ℕ) (ends : List Ends) (column : List M) (
       ∙ sym (take-take (pipes - 1) pipes (pipes_of ends column) (omega arith))
       ∙ ap₂ (λ k ps. take (k - 1) ps) (sym seen_length) (sym (pipes_take pipes ends column)))
 
-  pub seen_reweighed : (j : ℕ) (w : M) → j < pipes → seen nodes pipes ends (set column j w) ≡ reweigh_pipe (seen nodes pipes ends column) (j + 1) w
-  seen_reweighed j w l =
+  pub seen_reweighed : (j : ℕ) (w : M) → seen nodes pipes ends (set column j w) ≡ reweigh_pipe (seen nodes pipes ends column) (j + 1) w
+  seen_reweighed j w =
       ap (λ ps. record { nodes = nodes; pipes = ps })
-      (ap (pipes_of (take pipes ends)) (take-set-lt pipes column j w l) ∙ pipes_reweighed (take pipes ends) (take pipes column) j w
+      (ap (pipes_of (take pipes ends)) (take_set pipes column j w) ∙ pipes_reweighed (take pipes ends) (take pipes column) j w
       ∙ ap (λ i. reweighed (pipes_of (take pipes ends) (take pipes column)) i w) (omega arith))

@@ -18,7 +18,7 @@ returns-clause-replied g c =
     let back : place ≡ c.args.pipe - 1 = omega arith in (
       c.in_ok-self.ensures.0,
       record {
-        other_weight = seen_reweighed n.tables.nodes n.tables.pipes n.tables.ends n.column.now (ends_for_all n) n.fits place c.args.weight is.within
+        other_weight = seen_reweighed n.tables.nodes n.tables.pipes n.tables.ends n.column.now (ends_for_all n) n.fits place c.args.weight
             ∙ ap (λ j. reweigh_pipe (view n) j c.args.weight) (sym is.next);
         rings_struck = refl;
         its_place = ap (λ k. set n.column.now k c.args.weight) back;

@@ -1,5 +1,4 @@
-use Rattle.std.proofs.Common.{◌≡◌, ℕ, ◌+◌, ◌-◌, true, false, List, ◌++◌, map, get_or, set, length, sym, ap, ◌∙◌, ap₂, arith, rules}
-use borrow.Rule.Slice.PartMut.{mid_of}
+use Rattle.std.proofs.Common.{◌≡◌, ℕ, true, false, List, ◌++◌, map, get_or, set, length, sym, ap, ◌∙◌, ap₂, arith, rules}
 use mathlib.Core.List.{append-nil}
 use Rattle.std.proofs.lemmas.List.Edits.{map_over_more}
 use Rattle.std.proofs.lemmas.List.{get_or_default, take_all, drop_all}
@@ -29,9 +28,8 @@ returns-clause-turned c =
     let k : ℕ = c.args.found in
     let long : length start ≡ 256 = search rules in
     let own : Row = (get_or start k blank).words in
-    let later : List StoredRow = mid_of (k + 1) (256 - (k + 1)) start in
     let over = c.loop-later-test.false in
-    turned_all start k c.args.ring long c.requires own (read_row start k (omega arith)) c.loop-later.later-items
+    turned_all start k c.args.ring long c.requires own (read_row start k (omega arith)) c.loop-later.later-items _ (omega arith)
     (c.loop-later.invariant
-    ∙ ap₂ (λ done left. map (turned c.args.ring own) done ++ left) (take_all _ later over) (drop_all _ later over)
-    ∙ append-nil (map (turned c.args.ring own) later))
+    ∙ ap₂ (λ done left. map (turned c.args.ring own) done ++ left) (take_all _ _ over) (drop_all _ _ over)
+    ∙ append-nil _)
