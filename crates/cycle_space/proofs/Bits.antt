@@ -12,7 +12,7 @@ use Rattle.cycle_space.proofs.Booleans.{add2_same, add2_comm, add2_assoc}
 abbrev pub bit_at : ℕ → ℕ → Bool
 bit_at x j = eqb (x / 2 ^ j % 2) 1
 
-bit_zero : (k : ℕ) → bit_at 0 k ≡ false
+pub bit_zero : (k : ℕ) → bit_at 0 k ≡ false
 bit_zero k = ap (λ n. eqb n 1) (bit_at-zero k)
 
 pub bit_at_xor : (x y j : ℕ) → bit_at (bit_xor x y) j ≡ add2 (bit_at x j) (bit_at y j)
@@ -29,7 +29,7 @@ pub bit_suc : (n j : ℕ) → bit_at n (suc j) ≡ bit_at (n / 2) j
 bit_suc n j = ap (λ x. eqb x 1) (bit_at-suc n j)
 
 -- a word of k bits is known by them
-word_known : (k a b : ℕ) → a < 2 ^ k → b < 2 ^ k → ((j : ℕ) → j < k → bit_at a j ≡ bit_at b j) → a ≡ b
+pub word_known : (k a b : ℕ) → a < 2 ^ k → b < 2 ^ k → ((j : ℕ) → j < k → bit_at a j ≡ bit_at b j) → a ≡ b
 word_known k a b la lb h = same_from_bits_below k a b la lb (λ j l. let e = h j l in grind (arith, nat_tests))
 
 -- bit j of word q
@@ -38,7 +38,7 @@ unfolding bit
 bit_of_word r q j l =
     ap₂ (λ a b. bit_at (get_or r a 0) b) (let e : (64 * q + j) / 64 ≡ q = omega arith in e) (let e : (64 * q + j) % 64 ≡ j = omega arith in e)
 
-bit_past : (r : Row) → length r ≡ 4 → (j : ℕ) → 256 ≤ j → bit r j ≡ false
+pub bit_past : (r : Row) → length r ≡ 4 → (j : ℕ) → 256 ≤ j → bit r j ≡ false
 unfolding bit
 bit_past r l j h = ap (λ n. bit_at n (j % 64)) (get_or_past r (j / 64) 0 (omega arith)) ∙ bit_zero (j % 64)
 
@@ -47,9 +47,9 @@ holds_bit r zero l = absurd (omega arith)
 holds_bit r (suc j) l = ap (bit r) (omega arith)
 
 -- what is read of a row at the spot of a pipe
-pub read_at : (r : Row) (j word place : ℕ) → 0 < j → word ≡ (j - 1) / 64 → place ≡ (j - 1) % 64 → eqb (bit_and (get_or r word 0 / 2 ^ place) 1) 1 ≡ holds r j
+pub read_at : (r : Row) (j word place mask : ℕ) → 0 < j → word ≡ (j - 1) / 64 → place ≡ (j - 1) % 64 → mask ≡ 1 → eqb (bit_and (get_or r word 0 / 2 ^ place) mask) 1 ≡ holds r j
 unfolding bit
-read_at r j word place l w p = rw (w, p) (ap (λ v. eqb v 1) (and_mask _ 1) ∙ sym (holds_bit r j l))
+read_at r j word place mask l w p m = rw (w, p, m) (ap (λ v. eqb v 1) (and_mask _ 1) ∙ sym (holds_bit r j l))
 
 pub holds_past : (r : Row) → length r ≡ 4 → (j : ℕ) → 256 < j → holds r j ≡ false
 holds_past r l zero h = absurd (omega arith)

@@ -39,7 +39,7 @@ due_after N g (suc k) l =
     let o = count_out (suc N.nodes) (root N k) (max p q) (omega (arith, ends.0.1, ends.1.1)) (grind (arith, nat_tests)) in
     omega arith)
 
-due_by_labels : (N : Shape) → EndsAreNodes N
+pub due_by_labels : (N : Shape) → EndsAreNodes N
     → rank N + N.nodes ≡ N.pipes + count N.nodes (λ v. eqb (label N N.pipes (suc v)) (suc v))
 due_by_labels N g =
     let c = due_after N g N.pipes (omega arith) in

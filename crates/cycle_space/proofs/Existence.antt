@@ -48,7 +48,7 @@ reach N few (suc k) l =
           (put ring k c) (λ i il. kept ring k c i il) (put_at ring k c) (turn k support c) (turn_extends k support c),
     )
 
-sound_bases_exist : (N : Shape) → N.pipes ≤ 256
+pub sound_bases_exist : (N : Shape) → N.pipes ≤ 256
     → (rows : List Row) × (support : ℕ → Row) × (length rows ≡ rank N) × Sound N (length rows) (λ i. get_or rows i empty) support × Basis N rows
 sound_bases_exist N few =
     let r = reach N few (rank N) (omega arith) in

@@ -22,7 +22,7 @@ module _ {M : Type 0} {e : M} {op : M → M → M} (g : Comm e op) where
   pub right : (x : M) → op x e ≡ x
   right x = g.comm x e ∙ g.left x
 
-  swap4 : (a b c d : M) → op (op a b) (op c d) ≡ op (op a c) (op b d)
+  pub swap4 : (a b c d : M) → op (op a b) (op c d) ≡ op (op a c) (op b d)
   swap4 a b c d = grind (arith, g.assoc, g.comm)
 
   pub fold_same : (n : ℕ) (u v : ℕ → M) → ((i : ℕ) → i < n → u i ≡ v i) → fold e op n u ≡ fold e op n v

@@ -18,11 +18,11 @@ use Rattle.cycle_space.proofs.Counting.{count_before, count_same_place, exactly_
 
 -- Closing pipes alone
 
-alone_words : (N : Shape) (i : ℕ) → FourWords (alone N i)
+pub alone_words : (N : Shape) (i : ℕ) → FourWords (alone N i)
 unfolding alone
 alone_words N i = row_of_words (λ j. ltb j N.pipes && (closes N j && eqb (before N j) i))
 
-alone_bit : (N : Shape) → N.pipes ≤ 256 → (i j : ℕ) → bit (alone N i) j ≡ (ltb j N.pipes && (closes N j && eqb (before N j) i))
+pub alone_bit : (N : Shape) → N.pipes ≤ 256 → (i j : ℕ) → bit (alone N i) j ≡ (ltb j N.pipes && (closes N j && eqb (before N j) i))
 unfolding alone
 alone_bit N few i j = row_bits (λ j. ltb j N.pipes && (closes N j && eqb (before N j) i)) (λ j l. grind (arith, nat_tests)) j
 
@@ -79,7 +79,7 @@ sound_alone N ring few = record {
 -- Another number of nodes
 
 -- which pipes are closing, is seen from their ends
-closes_same : (N N' : Shape) → N.first ≡ N'.first → N.second ≡ N'.second → closes N ≡ closes N'
+pub closes_same : (N N' : Shape) → N.first ≡ N'.first → N.second ≡ N'.second → closes N ≡ closes N'
 closes_same N N' p q = ap₂ (λ f g. closes (record { nodes = 0; pipes = 0; first = f; second = g })) p q
 
 pub alone_same : (N N' : Shape) → N.pipes ≡ N'.pipes → N.first ≡ N'.first → N.second ≡ N'.second → (i : ℕ) → alone N i ≡ alone N' i

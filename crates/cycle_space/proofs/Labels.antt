@@ -49,7 +49,7 @@ label_le N (suc k) v = let h = label_le N k v in grind (arith, nat_tests)
 pub label_label : (N : Shape) (k v : ℕ) → label N k (label N k v) ≡ label N k v
 label_label N k v = sym (label_run N k v (label N k v) (to_label N k v))
 
-same_label : (N : Shape) (k u v : ℕ) → label N k u ≡ label N k v → Run N k u v
+pub same_label : (N : Shape) (k u v : ℕ) → label N k u ≡ label N k v → Run N k u v
 same_label N k u v e =
     run_then N k u (label N k u) v (to_label N k u) (subst (λ l. Run N k l v) (sym e) (run_back N k v (label N k v) (to_label N k v)))
 

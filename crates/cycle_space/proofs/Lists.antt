@@ -88,7 +88,7 @@ module _ {M : Type 0} {zero' : M} {join : M → M → M} {within : M → M → B
       abbrev Swap : (ℕ → ℕ) → Type 0
       Swap f = Exchanged none xors (Cycle (shape n)) within (λ x. weight zero' join n (row_of x)) (length ours) (λ i. bit (get_or ours i empty)) (length rival) (λ i. bit (get_or rival i empty)) f
 
-      swap : (f : ℕ → ℕ) × Swap f
+      pub swap : (f : ℕ → ℕ) × Swap f
       swap = exchange (space (shape n)) (λ i. dot_add 256 (bit (support i))) our_rings (to_spans (shape n) s.few_pipes rival b)
 
       weighs : (r : Row) → Closed (shape n) r → weight zero' join n (row_of (bit r)) ≡ weight zero' join n r

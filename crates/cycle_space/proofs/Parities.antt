@@ -10,7 +10,7 @@ use Rattle.cycle_space.proofs.Folds.{bits, fold_same, fold_two, fold_none, fold_
 use Rattle.cycle_space.proofs.Bits.{bit_at, bit_at_and, bit_at_xor, bit_low, bit_suc, bit_of_word, empty_bit, sum_bit}
 
 -- the parity of a count is a sum over GF(2)
-common_parity : (x y : Row) (m : ℕ) → eqb (common x y m % 2) 1 ≡ fold false add2 m (λ j. bit x j && bit y j)
+pub common_parity : (x y : Row) (m : ℕ) → eqb (common x y m % 2) 1 ≡ fold false add2 m (λ j. bit x j && bit y j)
 unfolding common fold
 common_parity x y zero = refl
 common_parity x y (suc m) = let r = common_parity x y m in grind (arith, nat_tests)

@@ -35,14 +35,14 @@ module _ (N : Shape) (k : ℕ) (ring support : ℕ → Row) (s : Sound N k ring 
       ∙ h (before N j) (count_before (closes N) N.pipes j l cj)
 
   -- the empty set alone is even against all supports
-  separated : (x : ℕ → Bool) → Cycle N x → ((i : ℕ) → i < rank N → odd_sets (bit (support i)) x ≡ false) → x ≡ none
+  pub separated : (x : ℕ → Bool) → Cycle N x → ((i : ℕ) → i < rank N → odd_sets (bit (support i)) x ≡ false) → x ≡ none
   separated x c h = fun_ext (λ j. elim (dec_lt j N.pipes) [
     | yes l ↦ separation N x c.closed (λ i li xi ci. both_ways (x i) (none_closing x c h (suc (before N i)) i (omega arith) li ((closing_decided N i).1 ci)) xi) j l
     | no l ↦ c.bounded j (omega arith)
   ])
 
   -- as long as a ring is missing, a closed set is odd against the next support
-  some_odd : k < rank N → (x : ℕ → Bool) × Cycle N x × (odd_sets (bit (support k)) x ≡ true)
+  pub some_odd : k < rank N → (x : ℕ → Bool) × Cycle N x × (odd_sets (bit (support k)) x ≡ true)
   some_odd lt =
       let at = count_find (closes N) N.pipes k lt in
       let j = at.0 in

@@ -107,7 +107,7 @@ abbrev pub tally : List ℕ → ℕ → Bool
 tally [] i = false
 tally (j ∷ ps) i = add2 (eqb i j) (tally ps i)
 
-tally_in : (P : ℕ → Type 0) (ps : List ℕ) → Every P ps → (i : ℕ) → tally ps i ≡ true → P i
+pub tally_in : (P : ℕ → Type 0) (ps : List ℕ) → Every P ps → (i : ℕ) → tally ps i ≡ true → P i
 tally_in P [] e i h = absurd (both_ways false refl h)
 tally_in P (j ∷ ps) e i h =
     by_eqb (λ c. add2 c (tally ps i) ≡ true → P i) i j (λ q _. subst P (sym q) e.0) (λ _ k. tally_in P ps e.1 i k) h
@@ -194,7 +194,7 @@ odd_one N S j l = fold_same bits N.pipes (λ i. S i && eqb i j) (λ i. eqb i j &
 pub odd_flip : (N : Shape) (S x : ℕ → Bool) (j : ℕ) → j < N.pipes → odd_in N S (flip x j) ≡ add2 (odd_in N S x) (S j)
 odd_flip N S x j l = dot_add N.pipes S x (λ i. eqb i j) ∙ ap (add2 (odd_in N S x)) (odd_one N S j l)
 
-odd_tally : (N : Shape) (S : ℕ → Bool) (ps : List ℕ) → Every (λ j. j < N.pipes) ps → odd_in N S (tally ps) ≡ parity S ps
+pub odd_tally : (N : Shape) (S : ℕ → Bool) (ps : List ℕ) → Every (λ j. j < N.pipes) ps → odd_in N S (tally ps) ≡ parity S ps
 odd_tally N S [] e = fold_none bits N.pipes (λ j. S j && false) (λ j _. and_comm (S j) false)
 odd_tally N S (j ∷ ps) e = dot_add N.pipes S (λ i. eqb i j) (tally ps) ∙ ap₂ add2 (odd_one N S j e.0) (odd_tally N S ps e.1)
 

@@ -15,7 +15,7 @@ use Rattle.cycle_space.proofs.Props.{as_supports}
 use Rattle.cycle_space.proofs.Counting.{count_le}
 
 -- before the first ring the supports are the closing pipes, and then they stand in their table
-supports_before : (t : Tables) (i : ℕ) → t.found ≡ 0 → supports_of t i ≡ alone (laid_out t) i
+pub supports_before : (t : Tables) (i : ℕ) → t.found ≡ 0 → supports_of t i ≡ alone (laid_out t) i
 supports_before t i e = ap (λ b. cond b (alone (laid_out t) i) (row_at t.supports i)) (eq-eqb t.found 0 e)
 
 pub supports_stored : (t : Tables) (i : ℕ) → (t.found ≡ 0 → ⊥) → supports_of t i ≡ row_at t.supports i

@@ -94,11 +94,11 @@ pub short_reply : (r : Result ℕ Refusal) → is_err r ≡ true → IsErrAnd r 
 short_reply (Ok k) e b = absurd b
 short_reply (Err x) e b = ap Err b
 
+pub extended_as : {k : ℕ} {S S' T : ℕ → Row} {c : Row} → ((i : ℕ) → S i ≡ S' i) → Extended k S c T → Extended k S' c T
+extended_as {k} {S} {S'} {T} {c} e x = subst (λ U. Extended k U c T) (fun_ext e) x
+
 -- the supports that next works on are those of the net
 module _ {M : Type 0} (n : Net M) (rows : List StoredRow) (long : length rows ≡ 256) (are : (i : ℕ) → row_at rows i ≡ supports_of n.tables i) where
-  pub extended_as : {c : Row} {later : ℕ → Row} → Extended n.tables.found (row_at rows) c later → Extended n.tables.found (supports_of n.tables) c later
-  extended_as {c} {later} x = subst (λ S. Extended n.tables.found S c later) (fun_ext are) x
-
   -- what the search finds with the first support without a ring
   module _ (room : n.tables.found < 256) (l : Layout M) (drawn : plan l ≡ laid_out n.tables) where
     same : (get_or rows n.tables.found blank).words ≡ supports_of n.tables n.tables.found

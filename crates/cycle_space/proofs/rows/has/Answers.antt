@@ -6,7 +6,7 @@ use Rattle.cycle_space.proofs.rows.has.Goals as goal
 pub returns-in-Some : goal.returns-in-Some
 returns-in-Some c =
     let spot = c.in-Some.ensures in
-    read_at c.args.row c.args.pipe _ _ spot.0 spot.2 (omega (arith, spot.3))
+    read_at c.args.row c.args.pipe _ _ _ spot.0 spot.2 (omega (arith, spot.3)) (omega (arith, spot.1))
 
 pub returns-in-None : goal.returns-in-None
 returns-in-None c =

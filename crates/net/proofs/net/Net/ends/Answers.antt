@@ -1,4 +1,4 @@
-use Rattle.std.proofs.Common.{◌≡◌, ◌-◌, sym, ap, ◌∙◌, arith}
+use Rattle.std.proofs.Common.{sym, ap, ◌∙◌, arith}
 use Rattle.cycle_space.specs.Moments.{shape}
 use Rattle.net.specs.Views.{view}
 use Rattle.net.proofs.Kept.{first_seen, second_seen}
@@ -7,11 +7,10 @@ use Rattle.net.proofs.net.Net.ends.Goals as goal
 pub returns : goal.returns
 returns g c =
     let n = c.args.self.now in
-    let is = c.in_ok-pipe_place.ensures.1 in
-    let back : c.in_ok-pipe_place.field-0 ≡ c.args.pipe - 1 = omega arith in (
+    let is = c.in_ok-pipe_place.ensures.1 in (
       c.in_ok-pipe_place.ensures.0,
       record {
-        first_end = sym (first_seen n _ is.within) ∙ ap (shape (view n)).first back;
-        second_end = sym (second_seen n _ is.within) ∙ ap (shape (view n)).second back;
+        first_end = sym (first_seen n _ (omega (arith, is.next, is.within))) ∙ ap (shape (view n)).first (omega (arith, is.next));
+        second_end = sym (second_seen n _ (omega (arith, is.next, is.within))) ∙ ap (shape (view n)).second (omega (arith, is.next));
       },
     )

@@ -39,7 +39,7 @@ invariant_of-self-clause-keeps g c =
     let room = c.is_complete.ensures.room c.if-is_complete.false in
     ring_kept m.zero m.join m.within n c.in-Some.ring c.turn.new.self.of room
     (lightest_found n rows long c.supports-supports.ensures room c.layout.result c.layout.ensures.drawn m.zero m.join m.within c.in_ok-ring.ensures.1 c.in-Some.is c.layout.ensures.weighed)
-    (extended_as n rows long c.supports-supports.ensures c.turn.ensures.turned)
+    (extended_as c.supports-supports.ensures c.turn.ensures.turned)
     (still_due n c.is_complete.ensures.due c.if-is_complete.false) c.turn.ensures.long
 
 pub returns-clause-replied : goal.returns-clause-replied
@@ -56,7 +56,7 @@ returns-clause-replied g c =
         is_accepted n c.is_complete.ensures.due c.if-is_complete.false c.args.scratch.now (omega arith),
         found_next m.zero m.join m.within n c.in-Some.ring c.turn.new.self.of room
             (lightest_found n rows long c.supports-supports.ensures room c.layout.result c.layout.ensures.drawn m.zero m.join m.within c.in_ok-ring.ensures.1 c.in-Some.is c.layout.ensures.weighed)
-            (extended_as n rows long c.supports-supports.ensures c.turn.ensures.turned) _ _,
+            (extended_as c.supports-supports.ensures c.turn.ensures.turned) _ _,
       );
       declined_scratch = λ e q. cc;
       as_long = c.in_ok-ring.ensures.2;
